@@ -1,0 +1,1 @@
+-- Laws that crates above cite.

@@ -1,0 +1,4 @@
+-- The pump's answers, letter by letter.
+pub mod Statuses
+pub mod Replies
+pub mod Answers

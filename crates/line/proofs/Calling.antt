@@ -1,0 +1,222 @@
+-- The functions' names by their letters; and that a name which leads a text is the one that is called, so that no two compete.
+-- Assumes nothing.
+use Prim.Native.Nat.{ℕ, _≤_}
+use mathlib.Core.Path.{_≡_, refl, sym, ap, subst, _∙_}
+use mathlib.Core.Bool.{Bool, true, false, _&&_}
+use mathlib.Core.List.{List, [], _∷_}
+use native.Mathlib.Omega.{arith}
+use lib.Dec.{eqb}
+use lib.ListN.{length, getD}
+use borrow.Author.Tests.{ne-eqb}
+use Rattle.base.specs.If.{if_then_else_}
+use Rattle.base.specs.Text.{text, letter}
+use Rattle.base.proofs.Choices.{and-false}
+use Rattle.program.specs.Names.{spelled}
+use Rattle.program.specs.declared.functions.Function.{Function}
+use Rattle.program.specs.declared.functions.Function.the-variants as f
+use Rattle.line.specs.Spelling.{leads}
+use Rattle.line.specs.Functions.{functions, calledOf, calledBy, calledAmong}
+use Rattle.line.specs.declared.functions.Called.{Called}
+use Rattle.line.specs.declared.functions.Called.the-variants.{By, NoFunction}
+use Rattle.line.proofs.Leading.{leads-is, leads-within}
+
+-- ---- the letters that the code looks at leave one function to be tried
+abbrev Only : Function → List ℕ → Type 0
+Only g s = calledOf s ≡ calledBy g (spelled g) s
+
+pub only-rat : (t : List ℕ) → Only f.Rat (letter "R" ∷ t)
+unfolding calledOf leads
+only-rat t = refl
+
+pub only-inc : (t : List ℕ) → Only f.Inc (letter "I" ∷ letter "N" ∷ t)
+unfolding calledOf leads
+only-inc t = refl
+
+pub only-dec : (t : List ℕ) → Only f.Dec (letter "D" ∷ t)
+unfolding calledOf leads
+only-dec t = refl
+
+pub only-stp : (t : List ℕ) → Only f.Stp (letter "S" ∷ t)
+unfolding calledOf leads
+only-stp t = refl
+
+pub only-jmp : (t : List ℕ) → Only (f.Jmp 0) (letter "J" ∷ t)
+unfolding calledOf leads
+only-jmp t = refl
+
+pub only-lop : (b : ℕ) (t : List ℕ) → Only (f.Lop 0) (letter "L" ∷ b ∷ letter "P" ∷ t)
+unfolding calledOf leads
+only-lop b t = simp and-false
+
+pub only-lps : (b : ℕ) (t : List ℕ) → Only f.Lps (letter "L" ∷ b ∷ letter "S" ∷ t)
+unfolding calledOf leads
+only-lps b t = simp and-false
+
+pub only-lpe : (b : ℕ) (t : List ℕ) → Only f.Lpe (letter "L" ∷ b ∷ letter "E" ∷ t)
+unfolding calledOf leads
+only-lpe b t = simp and-false
+
+pub only-pas : (t : List ℕ) → Only (f.Pas 0) (letter "P" ∷ t)
+unfolding calledOf leads
+only-pas t = refl
+
+pub only-if : (t : List ℕ) → Only (f.If 0) (letter "I" ∷ letter "F" ∷ t)
+unfolding calledOf leads
+only-if t = refl
+
+pub only-evn : (b : ℕ) (t : List ℕ) → Only (f.Evn 0) (letter "E" ∷ b ∷ letter "N" ∷ t)
+unfolding calledOf leads
+only-evn b t = simp and-false
+
+pub only-evr : (b : ℕ) (t : List ℕ) → Only f.Evr (letter "E" ∷ b ∷ letter "R" ∷ t)
+unfolding calledOf leads
+only-evr b t = simp and-false
+
+pub only-bep : (t : List ℕ) → Only f.Bep (letter "B" ∷ t)
+unfolding calledOf leads
+only-bep t = refl
+
+pub only-out : (t : List ℕ) → Only (f.Out 0) (letter "O" ∷ t)
+unfolding calledOf leads
+only-out t = refl
+
+-- ---- letters that no name has there
+loop-unknown :
+    (s : List ℕ)
+    → getD s 0 0 ≡ letter "L"
+    → (getD s 2 0 ≡ letter "P" → ⊥)
+    → (getD s 2 0 ≡ letter "S" → ⊥)
+    → (getD s 2 0 ≡ letter "E" → ⊥)
+    → calledOf s ≡ NoFunction
+unfolding calledOf leads
+loop-unknown [] e p q r = refl
+loop-unknown (a ∷ []) e p q r = simp and-false
+loop-unknown (a ∷ b ∷ []) e p q r = simp (e, and-false)
+loop-unknown (a ∷ b ∷ c ∷ s) e p q r =
+    simp (e, ne-eqb c (letter "P") p, ne-eqb c (letter "S") q, ne-eqb c (letter "E") r, and-false)
+
+event-unknown :
+    (s : List ℕ) → getD s 0 0 ≡ letter "E" → (getD s 2 0 ≡ letter "N" → ⊥) → (getD s 2 0 ≡ letter "R" → ⊥) → calledOf s ≡ NoFunction
+unfolding calledOf leads
+event-unknown [] e p q = refl
+event-unknown (a ∷ []) e p q = simp and-false
+event-unknown (a ∷ b ∷ []) e p q = simp (e, and-false)
+event-unknown (a ∷ b ∷ c ∷ s) e p q = simp (e, ne-eqb c (letter "N") p, ne-eqb c (letter "R") q, and-false)
+
+second-unknown :
+    (s : List ℕ)
+    → getD s 0 0 ≡ letter "I"
+    → (getD s 1 0 ≡ letter "N" → ⊥)
+    → (getD s 1 0 ≡ letter "F" → ⊥)
+    → calledOf s ≡ NoFunction
+unfolding calledOf leads
+second-unknown [] e p q = refl
+second-unknown (a ∷ []) e p q = simp and-false
+second-unknown (a ∷ b ∷ s) e p q = simp (e, ne-eqb b (letter "N") p, ne-eqb b (letter "F") q)
+
+-- a letter that begins no function's name
+pub record NoFirst (a : ℕ) : Type 0 where
+  pub r : a ≡ letter "R" → ⊥
+  pub i : a ≡ letter "I" → ⊥
+  pub d : a ≡ letter "D" → ⊥
+  pub s : a ≡ letter "S" → ⊥
+  pub j : a ≡ letter "J" → ⊥
+  pub l : a ≡ letter "L" → ⊥
+  pub p : a ≡ letter "P" → ⊥
+  pub e : a ≡ letter "E" → ⊥
+  pub b : a ≡ letter "B" → ⊥
+  pub o : a ≡ letter "O" → ⊥
+
+first-unknown : (s : List ℕ) → NoFirst (getD s 0 0) → calledOf s ≡ NoFunction
+unfolding calledOf leads
+first-unknown [] n = refl
+first-unknown (a ∷ s) n =
+    simp (
+      ne-eqb a (letter "R") (n .r),
+      ne-eqb a (letter "I") (n .i),
+      ne-eqb a (letter "D") (n .d),
+      ne-eqb a (letter "S") (n .s),
+      ne-eqb a (letter "J") (n .j),
+      ne-eqb a (letter "L") (n .l),
+      ne-eqb a (letter "P") (n .p),
+      ne-eqb a (letter "E") (n .e),
+      ne-eqb a (letter "B") (n .b),
+      ne-eqb a (letter "O") (n .o),
+    )
+
+module _ (s : List ℕ) (a : ℕ) (d : a ≡ getD s 0 0) where
+  pub no-loop :
+      (c : ℕ)
+      → a ≡ letter "L"
+      → c ≡ getD s 2 0
+      → (c ≡ letter "P" → ⊥)
+      → (c ≡ letter "S" → ⊥)
+      → (c ≡ letter "E" → ⊥)
+      → NoFunction ≡ calledOf s
+  no-loop c e h p q r = sym (loop-unknown s (sym d ∙ e) (λ z. p (h ∙ z)) (λ z. q (h ∙ z)) (λ z. r (h ∙ z)))
+
+  pub no-event :
+      (c : ℕ) → a ≡ letter "E" → c ≡ getD s 2 0 → (c ≡ letter "N" → ⊥) → (c ≡ letter "R" → ⊥) → NoFunction ≡ calledOf s
+  no-event c e h p q = sym (event-unknown s (sym d ∙ e) (λ z. p (h ∙ z)) (λ z. q (h ∙ z)))
+
+  pub no-second :
+      (b : ℕ) → a ≡ letter "I" → b ≡ getD s 1 0 → (b ≡ letter "N" → ⊥) → (b ≡ letter "F" → ⊥) → NoFunction ≡ calledOf s
+  no-second b e h p q = sym (second-unknown s (sym d ∙ e) (λ z. p (h ∙ z)) (λ z. q (h ∙ z)))
+
+  pub no-first : NoFirst a → NoFunction ≡ calledOf s
+  no-first n = sym (first-unknown s (subst NoFirst d n))
+
+-- ---- a function that is called is named at the front of the text
+among-leads : (gs : List Function) (s : List ℕ) (g : Function) → calledAmong gs s ≡ By g → leads (spelled g) s ≡ true
+among-leads [] s g e = let z : _≡_ {A = ℕ} 0 1 = cc in absurd (omega arith)
+among-leads (h ∷ gs) s g e = go (leads (spelled h) s) refl e (among-leads gs s g)
+  where
+    go :
+        (t : Bool)
+        → leads (spelled h) s ≡ t
+        → (if t then By h else calledAmong gs s) ≡ By g
+        → (calledAmong gs s ≡ By g → leads (spelled g) s ≡ true)
+        → leads (spelled g) s ≡ true
+    go true p q k = let z : h ≡ g = cc in ap (λ (x : Function). leads (spelled x) s) (sym z) ∙ p
+    go false p q k = k q
+
+pub called-within : (s : List ℕ) (r : Called) (g : Function) → r ≡ calledOf s → r ≡ By g → length (spelled g) ≤ length s
+unfolding calledOf
+called-within s r g p q = leads-within (spelled g) s (among-leads functions s g (sym p ∙ q))
+
+-- ---- a name that leads a text is the one that is called
+-- the function that a name alone tells: its datum is 0, and PAS has whole seconds
+abbrev pub bare : Function → Function
+bare f.Rat = f.Rat
+bare f.Inc = f.Inc
+bare f.Dec = f.Dec
+bare f.Stp = f.Stp
+bare (f.Jmp n) = f.Jmp 0
+bare (f.Lop n) = f.Lop 0
+bare f.Lps = f.Lps
+bare f.Lpe = f.Lpe
+bare (f.Pas n) = f.Pas 0
+bare (f.Tenths n) = f.Pas 0
+bare (f.If n) = f.If 0
+bare (f.Evn n) = f.Evn 0
+bare f.Evr = f.Evr
+bare f.Bep = f.Bep
+bare (f.Out n) = f.Out 0
+
+pub called-is : (g : Function) (s : List ℕ) → leads (spelled g) s ≡ true → calledOf s ≡ By (bare g)
+unfolding calledOf leads
+called-is f.Rat s e = ap calledOf (leads-is (text "RAT") s e)
+called-is f.Inc s e = ap calledOf (leads-is (text "INC") s e)
+called-is f.Dec s e = ap calledOf (leads-is (text "DEC") s e)
+called-is f.Stp s e = ap calledOf (leads-is (text "STP") s e)
+called-is (f.Jmp n) s e = ap calledOf (leads-is (text "JMP") s e)
+called-is (f.Lop n) s e = ap calledOf (leads-is (text "LOP") s e)
+called-is f.Lps s e = ap calledOf (leads-is (text "LPS") s e)
+called-is f.Lpe s e = ap calledOf (leads-is (text "LPE") s e)
+called-is (f.Pas n) s e = ap calledOf (leads-is (text "PAS") s e)
+called-is (f.Tenths n) s e = ap calledOf (leads-is (text "PAS") s e)
+called-is (f.If n) s e = ap calledOf (leads-is (text "IF") s e)
+called-is (f.Evn n) s e = ap calledOf (leads-is (text "EVN") s e)
+called-is f.Evr s e = ap calledOf (leads-is (text "EVR") s e)
+called-is f.Bep s e = ap calledOf (leads-is (text "BEP") s e)
+called-is (f.Out n) s e = ap calledOf (leads-is (text "OUT") s e)

@@ -1,0 +1,30 @@
+-- `unaddressed` meets its contract: the part behind the address digits.
+-- Assumes nothing.
+use mathlib.Core.Path.{ap, _∙_}
+use Rattle.line.proofs.Leading.{part-behind}
+use Rattle.line.proofs.Addressing.{width-within}
+use native.Mathlib.Omega.{arith}
+use Rattle.line.specs.Addresses.{addressWidth, behindAddress}
+use borrow.Author.Needs.{needs}
+use Rattle.line.proofs.addresses.unaddressed.Statement.{statement}
+use Rattle.line.proofs.addresses.unaddressed.Tie as tie
+
+width-requires : tie.Need-width-requires
+width-requires c κs = search needs
+
+sub-result : tie.Need-sub-result
+sub-result c = rw (c .width .ensures) (width-within (c .before .before .args .s .now))
+
+part-result-start : tie.Need-part-result-start
+part-result-start c = rw (c .width .ensures) (width-within (c .before .before .args .s .now))
+
+part-result-end : tie.Need-part-result-end
+part-result-end c = search needs
+
+returns : tie.Need-returns
+unfolding behindAddress
+returns c = rw (c .before .width .ensures) (let s = c .before .before .before .args .s .now in part-behind s (addressWidth s))
+
+pub unaddressed-spec : {M : Type 1} → statement M
+unaddressed-spec =
+    tie.close (tie.spec width-requires sub-result part-result-start part-result-end returns)

@@ -1,0 +1,41 @@
+-- `amount` meets its contract: where there are units, all but the last two letters.
+-- Assumes nothing.
+use Rattle.line.proofs.Asking.{no-units, some-units, units-within}
+use native.Mathlib.Omega.{arith}
+use lib.ListN.{length-take}
+use borrow.Author.Needs.{needs}
+use Rattle.line.proofs.arguments.amount.Statement.{statement}
+use Rattle.line.proofs.arguments.amount.Tie as tie
+
+units-at-end-requires : tie.Need-units-at-end-requires
+units-at-end-requires c κs = search needs
+
+enum-told : tie.Need-enum-told
+enum-told c = search needs
+
+enum-told-2 : tie.Need-enum-told-2
+enum-told-2 c = search needs
+
+sub-n : tie.Need-sub-n
+sub-n c = search units-within
+
+slice-aggregate-result : tie.Need-slice-aggregate-result
+slice-aggregate-result c = simp length-take (omega arith)
+
+returns : tie.Need-returns
+returns c = search no-units
+
+returns-2 : tie.Need-returns-2
+returns-2 c = search some-units
+
+pub amount-spec : {M : Type 1} → statement M
+amount-spec =
+    tie.close
+    (tie.spec
+    units-at-end-requires
+    enum-told
+    enum-told-2
+    sub-n
+    slice-aggregate-result
+    returns
+    returns-2)

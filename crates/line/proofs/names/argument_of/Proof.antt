@@ -1,0 +1,35 @@
+-- `argument_of` meets its contract: the part behind the letters of the name.
+-- Assumes nothing.
+use mathlib.Core.Path.{ap, _∙_}
+use lib.ListN.{length, drop}
+use Prim.Native.Nat.{ℕ, _≤_}
+use Rattle.line.specs.Names.{nameOf, lettersOf, argumentOf}
+use Rattle.line.proofs.Naming.{letters-within}
+use Rattle.line.proofs.Leading.{part-behind}
+use borrow.Author.Needs.{needs}
+use Rattle.line.proofs.names.argument_of.Statement.{statement}
+use Rattle.line.proofs.names.argument_of.Tie as tie
+
+name-of-requires : tie.Need-name-of-requires
+name-of-requires c κs = search needs
+
+width-requires : tie.Need-width-requires
+width-requires c κs = search needs
+
+sub-result : tie.Need-sub-result
+sub-result c = rw (c .width .ensures, c .before .name-of .ensures) (letters-within (c .before .before .before .args .s .now))
+
+part-result-start : tie.Need-part-result-start
+part-result-start c = rw (c .width .ensures, c .before .name-of .ensures) (letters-within (c .before .before .before .args .s .now))
+
+part-result-end : tie.Need-part-result-end
+part-result-end c = search needs
+
+returns : tie.Need-returns
+unfolding argumentOf
+returns c = rw (c .before .width .ensures, c .before .before .name-of .ensures) (let s = c .before .before .before .before .args .s .now in part-behind s (length (lettersOf (nameOf s))))
+
+pub argument-of-spec : {M : Type 1} → statement M
+argument-of-spec =
+    tie.close
+    (tie.spec name-of-requires width-requires sub-result part-result-start part-result-end returns)

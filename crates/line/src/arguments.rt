@@ -1,0 +1,172 @@
+// What stands behind a name: nothing, a number, a rate with or without its units, a direction, a phase.
+ghost use mathlib.Core.Path.{_≡_};
+ghost use Rattle.line.specs.Arguments.{unitsOf, unitsAtEnd, amountOf, diameterAsked, volumeAsked, rateAsked, turnOf, directionAsked, clearAsked, phaseAsked, runAsked};
+use crate::commands::Command;
+use crate::spelling::is_text;
+use decimal::Reading;
+use decimal::Short;
+use drive::RateUnit;
+use program::Direction;
+
+// The units that a rate was sent with.
+pub enum Units {
+    Own,
+    Given(RateUnit),
+}
+
+// A direction as DIR and CLD name it.
+pub enum Turn {
+    To(Direction),
+    Reverse,
+    NoTurn,
+}
+
+// DIA
+pub fn diameter_asked(s: &[u8]) -> Command
+    ensures { λ r. ⌜ r ≡ diameterAsked (now (s .entry)) ⌝ }
+{
+    if s.len() == 0 {
+        return Command::AskDiameter;
+    }
+    match decimal::read(s) {
+        Reading::Number(x) => Command::SetDiameter(x),
+        Reading::NoNumber => Command::Malformed,
+    }
+}
+
+// VOL
+pub fn volume_asked(s: &[u8]) -> Command
+    ensures { λ r. ⌜ r ≡ volumeAsked (now (s .entry)) ⌝ }
+{
+    if s.len() == 0 {
+        return Command::AskVolume;
+    }
+    match decimal::read(s) {
+        Reading::Number(x) => Command::SetVolume(x),
+        Reading::NoNumber => Command::Malformed,
+    }
+}
+
+// RAT: the last two letters may be units, and the number is what stands before them.
+pub fn rate_asked(s: &[u8]) -> Command
+    ensures { λ r. ⌜ r ≡ rateAsked (now (s .entry)) ⌝ }
+{
+    let n = s.len();
+    if n == 0 {
+        return Command::AskRate;
+    }
+    let units = units_at_end(s);
+    match decimal::read(amount(s)) {
+        Reading::Number(x) => Command::SetRate(x, units),
+        Reading::NoNumber => Command::Malformed,
+    }
+}
+
+// The units at the end of a rate.
+fn units_at_end(s: &[u8]) -> Units
+    ensures { λ r. ⌜ r ≡ unitsAtEnd (now (s .entry)) ⌝ }
+{
+    let n = s.len();
+    if n < 2 {
+        return Units::Own;
+    }
+    units_of(s[n - 2], s[n - 1])
+}
+
+// The units of two letters.
+fn units_of(volume: u8, time: u8) -> Units
+    ensures { λ r. ⌜ r ≡ unitsOf volume time ⌝ }
+{
+    match volume {
+        b'U' => match time {
+            b'M' => Units::Given(RateUnit::Um),
+            b'H' => Units::Given(RateUnit::Uh),
+            _ => Units::Own,
+        },
+        b'M' => match time {
+            b'M' => Units::Given(RateUnit::Mm),
+            b'H' => Units::Given(RateUnit::Mh),
+            _ => Units::Own,
+        },
+        _ => Units::Own,
+    }
+}
+
+// A rate without the units at its end.
+fn amount(s: &[u8]) -> &[u8]
+    ensures { λ r. ⌜ now r ≡ amountOf (now (s .entry)) ⌝ }
+{
+    match units_at_end(s) {
+        Units::Own => s,
+        Units::Given(_) => {
+            let n = s.len() - 2;
+            &s[..n]
+        }
+    }
+}
+
+// DIR
+pub fn direction_asked(s: &[u8]) -> Command
+    ensures { λ r. ⌜ r ≡ directionAsked (now (s .entry)) ⌝ }
+{
+    if s.len() == 0 {
+        return Command::AskDirection;
+    }
+    match turn_of(s) {
+        Turn::To(d) => Command::SetDirection(d),
+        Turn::Reverse => Command::Reverse,
+        Turn::NoTurn => Command::Malformed,
+    }
+}
+
+// CLD
+pub fn clear_asked(s: &[u8]) -> Command
+    ensures { λ r. ⌜ r ≡ clearAsked (now (s .entry)) ⌝ }
+{
+    match turn_of(s) {
+        Turn::To(d) => Command::Clear(d),
+        Turn::Reverse => Command::Malformed,
+        Turn::NoTurn => Command::Malformed,
+    }
+}
+
+fn turn_of(s: &[u8]) -> Turn
+    ensures { λ r. ⌜ r ≡ turnOf (now (s .entry)) ⌝ }
+{
+    if is_text(b"INF", s) {
+        return Turn::To(Direction::Infuse);
+    }
+    if is_text(b"WDR", s) {
+        return Turn::To(Direction::Withdraw);
+    }
+    if is_text(b"REV", s) {
+        return Turn::Reverse;
+    }
+    Turn::NoTurn
+}
+
+// PHN
+pub fn phase_asked(s: &[u8]) -> Command
+    ensures { λ r. ⌜ r ≡ phaseAsked (now (s .entry)) ⌝ }
+{
+    if s.len() == 0 {
+        return Command::AskPhase;
+    }
+    match decimal::read_two(s) {
+        Short::Digits(n) => Command::SetPhase(n),
+        Short::NoDigits => Command::Malformed,
+    }
+}
+
+// RUN
+pub fn run_asked(s: &[u8]) -> Command
+    ensures { λ r. ⌜ r ≡ runAsked (now (s .entry)) ⌝ }
+{
+    if s.len() == 0 {
+        return Command::Run;
+    }
+    match decimal::read_two(s) {
+        Short::Digits(n) => Command::RunFrom(n),
+        Short::NoDigits => Command::Malformed,
+    }
+}

@@ -27,6 +27,9 @@ fn item(s: &[u8]) {
     let kind = s[0];
     let rest = &s[1..];
     match kind {
+        b'#' => {
+            io::write_all(STDOUT_FILENO, s);
+        }
         b'>' => show::line(rest),
         b'N' => number(unspaced(rest)),
         b'P' => printed(whole(unspaced(rest))),

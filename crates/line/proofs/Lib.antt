@@ -8,3 +8,5 @@ pub mod Calling
 pub mod Asking
 pub mod Behind
 pub mod Collecting
+pub mod Sent
+pub mod Theorems

@@ -7,3 +7,5 @@ pub mod Arguments
 pub mod Functions
 pub mod Commands
 pub mod Lines
+pub mod Collected
+pub mod Sendable

@@ -1,0 +1,69 @@
+-- `all` is safe: each turn goes past the end of a line.
+-- Assumes nothing.
+use native.Mathlib.Omega.{arith}
+use Prim.Native.Nat.{_≤_, _+_, _-_}
+use lib.ListN.{length}
+use borrow.Author.Needs.{needs}
+use Rattle.leaves.proofs.items.all.Statement.{statement}
+use Rattle.leaves.proofs.items.all.Tie as tie
+
+abbrev Inv-loop : tie.InvT-loop
+Inv-loop s at₀ t4 at = at ≤ length s + 1
+
+abbrev μ-loop : tie.MeasureT-loop
+μ-loop s at₀ t4 at = length s + 1 - at
+
+loop-holds : tie.Need-loop-holds Inv-loop μ-loop
+loop-holds c = omega arith
+
+until-requires : tie.Need-until-requires Inv-loop μ-loop
+until-requires c κs = omega arith
+
+sub-item : tie.Need-sub-item Inv-loop μ-loop
+sub-item c = omega arith
+
+part-item-start : tie.Need-part-item-start Inv-loop μ-loop
+part-item-start c = omega arith
+
+part-item-end : tie.Need-part-item-end Inv-loop μ-loop
+part-item-end c = omega arith
+
+item-requires : tie.Need-item-requires Inv-loop μ-loop
+item-requires c κs = search needs
+
+slice-aggregate-write-all : tie.Need-slice-aggregate-write-all Inv-loop μ-loop
+slice-aggregate-write-all c = search needs
+
+write-all-requires : tie.Need-write-all-requires Inv-loop μ-loop
+write-all-requires c κs = search needs
+
+add-at : tie.Need-add-at Inv-loop μ-loop
+add-at c = omega arith
+
+loop-less : tie.Need-loop-less Inv-loop μ-loop
+loop-less c = omega arith
+
+loop-again : tie.Need-loop-again Inv-loop μ-loop
+loop-again c = omega arith
+
+returns : tie.Need-returns Inv-loop μ-loop
+returns c = omega arith
+
+pub all-spec : {M : Type 1} → statement M
+all-spec =
+    tie.close
+    (tie.spec
+    Inv-loop
+    μ-loop
+    loop-holds
+    until-requires
+    sub-item
+    part-item-start
+    part-item-end
+    item-requires
+    slice-aggregate-write-all
+    write-all-requires
+    add-at
+    loop-less
+    loop-again
+    returns)

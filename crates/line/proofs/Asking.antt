@@ -16,10 +16,13 @@ use Rattle.decimal.specs.declared.short.Short.the-variants.{Digits, NoDigits}
 use Rattle.drive.specs.declared.rates.RateUnit.{RateUnit}
 use Rattle.drive.specs.declared.rates.RateUnit.the-variants.{Um, Mm, Uh, Mh}
 use Rattle.program.specs.declared.phases.Direction.{Direction}
-use Rattle.base.specs.Text.{letter}
+use Rattle.program.specs.declared.phases.Direction.the-variants.{Infuse, Withdraw}
+use Rattle.line.specs.Spelling.{isText}
+use Rattle.base.specs.Text.{letter, text}
 use Rattle.decimal.specs.Read.{readOf}
 use Rattle.line.specs.Arguments as asked
-use Rattle.line.specs.Arguments.{orQuery, ifNumber, ifDigits, unitsOf, unitsAtEnd, amountOf, rateAsked, turnOf, directionAsked, clearAsked}
+use Rattle.line.specs.Arguments.{orQuery, ifNumber, ifDigits, unitsOf, unitsAtEnd}
+use Rattle.line.specs.Arguments.{amountOf, rateAsked, turnOf, directionAsked, clearAsked}
 use Rattle.line.specs.declared.arguments.Units.{Units}
 use Rattle.line.specs.declared.arguments.Units.the-variants.{Own, Given}
 use Rattle.line.specs.declared.arguments.Turn.{Turn}
@@ -100,7 +103,9 @@ module _ (s : List ℕ) where
   units-within r u p q = go (ltb (length s) 2) refl
     where
       go : (t : Bool) → ltb (length s) 2 ≡ t → 2 ≤ length s
-      go true e = let z : Given u ≡ Own = sym q ∙ p ∙ sym (too-few (ltb-true (length s) 2 e)) in let y : _≡_ {A = ℕ} 0 1 = cc in absurd (omega arith)
+      go true e =
+          let z : Given u ≡ Own = sym q ∙ p ∙ sym (too-few (ltb-true (length s) 2 e)) in
+          let y : _≡_ {A = ℕ} 0 1 = cc in absurd (omega arith)
       go false e = ltb-false (length s) 2 e
 
   pub no-units : (r : Units) → r ≡ unitsAtEnd s → r ≡ Own → s ≡ amountOf s
@@ -112,7 +117,8 @@ module _ (s : List ℕ) where
   some-units r u p q = ap (λ (v : Units). asked.withoutUnits v s) (sym q ∙ p)
 
 -- ---- RAT
-module _ (s amount : List ℕ) (units : Units) (r : Reading) (n : length s ≡ 0 → ⊥) (p : units ≡ unitsAtEnd s) (q : amount ≡ amountOf s) (e : r ≡ readOf amount) where
+module _ (s amount : List ℕ) (units : Units) (r : Reading)
+    (n : length s ≡ 0 → ⊥) (p : units ≡ unitsAtEnd s) (q : amount ≡ amountOf s) (e : r ≡ readOf amount) where
   pub sets-rate : (x : ℕ) → r ≡ Number x → c.SetRate x units ≡ rateAsked s
   unfolding rateAsked
   sets-rate x k =
@@ -122,6 +128,28 @@ module _ (s amount : List ℕ) (units : Units) (r : Reading) (n : length s ≡ 0
   pub no-rate : r ≡ NoNumber → c.Malformed ≡ rateAsked s
   unfolding rateAsked
   no-rate k = no-number c.AskRate (λ x. c.SetRate x (unitsAtEnd s)) s n (readOf (amountOf s)) r (e ∙ ap readOf q) k
+
+-- ---- INF, WDR and REV, one after the other
+module _ (s : List ℕ) (inf : Bool) (p : inf ≡ isText (text "INF") s) where
+  pub turn-infuse : inf ≡ true → turn.To Infuse ≡ turnOf s
+  unfolding turnOf
+  turn-infuse e = sym (simp (sym p ∙ e))
+
+  module _ (e : inf ≡ false) (wdr : Bool) (q : wdr ≡ isText (text "WDR") s) where
+    pub turn-withdraw : wdr ≡ true → turn.To Withdraw ≡ turnOf s
+    unfolding turnOf
+    turn-withdraw k = sym (simp (sym p ∙ e, sym q ∙ k))
+
+    module _ (k : wdr ≡ false) (rev : Bool) (r : rev ≡ isText (text "REV") s) where
+      pub turn-reverse : rev ≡ true → turn.Reverse ≡ turnOf s
+      unfolding turnOf
+      turn-reverse h = sym (simp (sym p ∙ e, sym q ∙ k, sym r ∙ h))
+
+      pub turn-none : rev ≡ false → turn.NoTurn ≡ turnOf s
+      unfolding turnOf
+      turn-none h = sym (simp (sym p ∙ e, sym q ∙ k, sym r ∙ h))
+
+pub ruleset turns = (turn-infuse, turn-withdraw, turn-reverse, turn-none)
 
 -- ---- DIR and CLD
 module _ (s : List ℕ) (u : Turn) (p : u ≡ turnOf s) where

@@ -2,16 +2,20 @@
 -- Assumes nothing.
 use Prim.Native.Nat.{ℕ, _+_, _≤_, _<_, min}
 use mathlib.Core.Path.{_≡_, refl, sym, ap, _∙_}
-use mathlib.Core.Bool.{Bool, true, false, _&&_}
+use mathlib.Core.Bool.{Bool, true, false, _&&_, _||_, not}
 use mathlib.Core.List.{List, [], _∷_}
 use native.Mathlib.Numerals.{add-one}
 use native.Mathlib.Omega.{arith}
 use lib.ListN.{length, getD, take, drop, drop-of-length-le, length-take}
 use lib.Seq.{drop-cons, take-all}
 use borrow.Author.Tests.{ltb-true, ltb-false}
-use lib.Dec.{ltb}
+use lib.Dec.{leb, ltb}
 use Rattle.line.specs.Characters.{standing}
-use Rattle.line.specs.Lines.{allStanding}
+use Rattle.line.specs.Addresses.{addressOf, behindAddress}
+use Rattle.line.specs.Commands.{commandOf}
+use Rattle.line.specs.Lines.{text, allStanding, soundLine, addressIn, commandIn}
+use Rattle.line.specs.declared.commands.Command.{Command}
+use Rattle.line.specs.declared.lines.Line.{Line}
 
 -- what a length above 40 speaks of are the 40 places
 pub take-held : (bytes : List ℕ) (len n : ℕ) → length bytes ≡ 40 → n ≡ min len 40 → take n bytes ≡ take len bytes
@@ -48,3 +52,29 @@ unfolding allStanding
 standing-all s i m h = sym (sym (m .rest) ∙ ap allStanding (drop-of-length-le s h))
 
 pub ruleset stands = (standing-none, standing-more, one-falls, standing-all)
+
+-- ---- a line by the part of its array that is kept
+module _ (l : Line) (n : ℕ) (full : length (l .bytes) ≡ 40) (e : n ≡ min (l .len) 40) where
+  kept-text : take n (l .bytes) ≡ text l
+  kept-text = take-held (l .bytes) (l .len) n full e
+
+  pub address-kept : (a : ℕ) → a ≡ addressOf (take n (l .bytes)) → a ≡ addressIn l
+  unfolding addressIn
+  address-kept a p = p ∙ ap addressOf kept-text
+
+  pub command-kept :
+      (rest : List ℕ) (c : Command)
+      → l .overlong ≡ false
+      → rest ≡ behindAddress (take n (l .bytes))
+      → c ≡ commandOf rest
+      → c ≡ commandIn l
+  unfolding commandIn
+  command-kept rest c o p q = q ∙ ap commandOf (p ∙ ap behindAddress kept-text) ∙ sym (simp o)
+
+  pub sound-kept :
+      (t : Bool)
+      → (leb (l .len) 40 && (not (l .overlong) || leb 40 (l .len))) ≡ true
+      → t ≡ allStanding (take n (l .bytes))
+      → t ≡ soundLine l
+  unfolding soundLine
+  sound-kept t o p = p ∙ ap allStanding kept-text ∙ sym (simp o)

@@ -19,7 +19,8 @@ use borrow.Author.Tests.{lt-ltb, le-ltb, ltb-true, ltb-false, le-leb, leb-true}
 use Rattle.base.specs.If.{if_then_else_}
 use Rattle.base.proofs.Choices.{and-left, and-right}
 use Rattle.line.specs.Characters.{isReturn, isDropped, isLower, raised, arrivalOf, standing}
-use Rattle.line.specs.Lines.{emptyLine, withCharacter, afterArrival, afterByte, text, allStanding, soundLine, commandIn, kept, overLong}
+use Rattle.line.specs.Lines.{emptyLine, withCharacter, afterArrival, afterByte, text}
+use Rattle.line.specs.Lines.{allStanding, soundLine, commandIn, kept, overLong}
 use Rattle.line.specs.Addresses.{addressOf, behindAddress}
 use Rattle.line.specs.Collected.{collect, characters, Holds}
 use Rattle.line.specs.Commands.{commandOf}

@@ -1,6 +1,7 @@
 // What stands behind a name: nothing, a number, a rate with or without its units, a direction, a phase.
 ghost use mathlib.Core.Path.{_≡_};
-ghost use Rattle.line.specs.Arguments.{unitsOf, unitsAtEnd, amountOf, diameterAsked, volumeAsked, rateAsked, turnOf, directionAsked, clearAsked, phaseAsked, runAsked};
+ghost use Rattle.line.specs.Arguments.{unitsOf, unitsAtEnd, amountOf, turnOf};
+ghost use Rattle.line.specs.Arguments.{diameterAsked, volumeAsked, rateAsked, directionAsked, clearAsked, phaseAsked, runAsked};
 use crate::commands::Command;
 use crate::spelling::is_text;
 use decimal::Reading;

@@ -11,7 +11,8 @@ width-requires : tie.Need-width-requires
 width-requires c κs = search needs
 
 slice-aggregate-read-two : tie.Need-slice-aggregate-read-two
-slice-aggregate-read-two c = simp length-take (omega (arith, width-within (c .before .before .before .args .s .now), c .before .width .ensures))
+slice-aggregate-read-two c =
+    simp length-take (omega (arith, width-within (c .before .before .before .args .s .now), c .before .width .ensures))
 
 read-two-requires : tie.Need-read-two-requires
 read-two-requires c κs = search needs

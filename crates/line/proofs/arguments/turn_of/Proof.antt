@@ -1,7 +1,6 @@
 -- `turn_of` meets its contract: the three words, one after the other.
 -- Assumes nothing.
-use mathlib.Core.Path.{sym, _∙_}
-use Rattle.line.specs.Arguments.{turnOf}
+use Rattle.line.proofs.Asking.{turns}
 use borrow.Author.Needs.{needs}
 use Rattle.line.proofs.arguments.turn_of.Statement.{statement}
 use Rattle.line.proofs.arguments.turn_of.Tie as tie
@@ -13,8 +12,7 @@ is-text-requires : tie.Need-is-text-requires
 is-text-requires c κs = search needs
 
 returns : tie.Need-returns
-unfolding turnOf
-returns c = simp (sym (c .before .is-text .ensures) ∙ c .if1 .taken)
+returns c = search turns
 
 slice-aggregate-is-text-2 : tie.Need-slice-aggregate-is-text-2
 slice-aggregate-is-text-2 c = search needs
@@ -23,8 +21,7 @@ is-text-requires-2 : tie.Need-is-text-requires-2
 is-text-requires-2 c κs = search needs
 
 returns-2 : tie.Need-returns-2
-unfolding turnOf
-returns-2 c = simp (sym (c .before .before .before .before .is-text .ensures) ∙ c .before .before .before .if1 .left, sym (c .before .is-text2 .ensures) ∙ c .if2 .taken)
+returns-2 c = search turns
 
 slice-aggregate-is-text-3 : tie.Need-slice-aggregate-is-text-3
 slice-aggregate-is-text-3 c = search needs
@@ -33,12 +30,10 @@ is-text-requires-3 : tie.Need-is-text-requires-3
 is-text-requires-3 c κs = search needs
 
 returns-3 : tie.Need-returns-3
-unfolding turnOf
-returns-3 c = simp (sym (c .before .before .before .before .before .before .before .is-text .ensures) ∙ c .before .before .before .before .before .before .if1 .left, sym (c .before .before .before .before .is-text2 .ensures) ∙ c .before .before .before .if2 .left, sym (c .before .is-text3 .ensures) ∙ c .if3 .taken)
+returns-3 c = search turns
 
 returns-4 : tie.Need-returns-4
-unfolding turnOf
-returns-4 c = simp (sym (c .before .before .before .before .before .before .before .is-text .ensures) ∙ c .before .before .before .before .before .before .if1 .left, sym (c .before .before .before .before .is-text2 .ensures) ∙ c .before .before .before .if2 .left, sym (c .before .is-text3 .ensures) ∙ c .if3 .left)
+returns-4 c = search turns
 
 pub turn-of-spec : {M : Type 1} → statement M
 turn-of-spec =

@@ -38,13 +38,16 @@ returns : tie.Need-returns
 returns c = c .alone .ensures ∙ ap (withDatum (c .before .before .before .args .f)) (sym (c .before .enum-told .given .1))
 
 returns-2 : tie.Need-returns-2
-returns-2 c = c .with-digit .ensures ∙ ap (withDatum (c .before .before .before .before .args .f)) (sym (c .before .before .datum .given .1))
+returns-2 c =
+    c .with-digit .ensures ∙ ap (withDatum (c .before .before .before .before .args .f)) (sym (c .before .before .datum .given .1))
 
 returns-3 : tie.Need-returns-3
-returns-3 c = c .with-pair .ensures ∙ ap (withDatum (c .before .before .before .before .args .f)) (sym (c .before .before .datum2 .given .1))
+returns-3 c =
+    c .with-pair .ensures ∙ ap (withDatum (c .before .before .before .before .args .f)) (sym (c .before .before .datum2 .given .1))
 
 returns-4 : tie.Need-returns-4
-returns-4 c = c .with-tenths .ensures ∙ ap (withDatum (c .before .before .before .before .args .f)) (sym (c .before .before .datum3 .given .1))
+returns-4 c =
+    c .with-tenths .ensures ∙ ap (withDatum (c .before .before .before .before .args .f)) (sym (c .before .before .datum3 .given .1))
 
 returns-5 : tie.Need-returns-5
 returns-5 c = no-datum (c .before .before .args .f) ∙ ap (withDatum (c .before .before .args .f)) (sym (c .enum-told2 .given .1))

@@ -27,7 +27,9 @@ part-result-end c = search needs
 
 returns : tie.Need-returns
 unfolding argumentOf
-returns c = rw (c .before .width .ensures, c .before .before .name-of .ensures) (let s = c .before .before .before .before .args .s .now in part-behind s (length (lettersOf (nameOf s))))
+returns c =
+    let s = c .before .before .before .before .args .s .now in
+    rw (c .before .width .ensures, c .before .before .name-of .ensures) (part-behind s (length (lettersOf (nameOf s))))
 
 pub argument-of-spec : {M : Type 1} → statement M
 argument-of-spec =

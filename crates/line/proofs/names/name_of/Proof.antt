@@ -5,7 +5,8 @@ use Rattle.base.specs.Text.{text, letter}
 use Rattle.line.specs.Names.{nameOf, namedBy}
 use Rattle.line.specs.declared.names.Name.the-variants as n
 use Rattle.line.proofs.Letters.{by-first, by-second, by-third}
-use Rattle.line.proofs.Naming.{only-dia, only-dir, only-dis, only-rat, only-run, only-vol, only-phn, only-fun, only-stp, only-cld, only-reset, no-first, no-second, no-third}
+use Rattle.line.proofs.Naming.{only-dia, only-dir, only-dis, only-rat, only-run, only-vol, only-phn}
+use Rattle.line.proofs.Naming.{only-fun, only-stp, only-cld, only-reset, no-first, no-second, no-third}
 use borrow.Author.Needs.{needs}
 use Rattle.line.proofs.names.name_of.Statement.{statement}
 use Rattle.line.proofs.names.name_of.Tie as tie

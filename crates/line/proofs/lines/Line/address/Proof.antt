@@ -1,12 +1,12 @@
 -- `Line::address` meets its contract: the address in the kept characters.
 -- Assumes nothing.
+use Rattle.line.proofs.Collecting.{address-kept}
 use lib.ListN.{length, take, length-take, length-map}
 use mathlib.Core.List.{List}
 use Prim.Native.Nat.{ℕ}
 use Rattle.line.specs.Addresses.{addressOf}
 use Rattle.line.specs.Lines.{addressIn}
 use mathlib.Core.Path.{_≡_, sym, ap, _∙_}
-use Rattle.line.proofs.Collecting.{take-held}
 use native.Mathlib.Omega.{arith}
 use lib.ListN.{length-take}
 use borrow.Author.Needs.{needs}
@@ -17,17 +17,24 @@ held-requires : tie.Need-held-requires
 held-requires c κs = search needs
 
 array-share-prefix-bytes : tie.Need-array-share-prefix-bytes
-array-share-prefix-bytes c = let full : length (c .before .before .args .self .bytes) ≡ 40 = simp length-map at (c .before .before .good .0 .1 .1 .0 .1 .0 .1) in omega (arith, c .held .ensures)
+array-share-prefix-bytes c =
+    let full : length (c .before .before .args .self .bytes) ≡ 40 = simp length-map at (c .before .before .good .0 .1 .1 .0 .1 .0 .1) in
+    omega (arith, c .held .ensures)
 
 slice-aggregate-address-of : tie.Need-slice-aggregate-address-of
-slice-aggregate-address-of c = let full : length (c .before .before .before .args .self .bytes) ≡ 40 = simp length-map at (c .before .before .before .good .0 .1 .1 .0 .1 .0 .1) in simp length-take (omega (arith, c .before .held .ensures))
+slice-aggregate-address-of c =
+    let full : length (c .before .before .before .args .self .bytes) ≡ 40 =
+    simp length-map at (c .before .before .before .good .0 .1 .1 .0 .1 .0 .1) in
+    simp length-take (omega (arith, c .before .held .ensures))
 
 address-of-requires : tie.Need-address-of-requires
 address-of-requires c κs = search needs
 
 returns : tie.Need-returns
-unfolding addressIn
-returns c = c .address-of .ensures ∙ ap addressOf (take-held (c .before .before .before .before .args .self .bytes) (c .before .before .before .before .args .self .len) _ (simp length-map at (c .before .before .before .before .good .0 .1 .1 .0 .1 .0 .1)) (c .before .before .held .ensures))
+returns c =
+    address-kept (c .before .before .before .before .args .self) _
+    (simp length-map at (c .before .before .before .before .good .0 .1 .1 .0 .1 .0 .1)) (c .before .before .held .ensures)
+    _ (c .address-of .ensures)
 
 pub address-spec : {M : Type 1} → statement M
 address-spec =

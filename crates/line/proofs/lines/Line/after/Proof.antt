@@ -23,15 +23,20 @@ with-character-requires c κs = search needs
 
 returns : tie.Need-returns
 unfolding afterByte
-returns c = ap (afterArrival (c .before .before .before .args .self)) (sym (c .enum-told .given .1) ∙ c .before .before .arrival-of .ensures)
+returns c =
+    ap (afterArrival (c .before .before .before .args .self)) (sym (c .enum-told .given .1) ∙ c .before .before .arrival-of .ensures)
 
 returns-2 : tie.Need-returns-2
 unfolding afterByte
-returns-2 c = ap (afterArrival (c .before .before .before .args .self)) (sym (c .enum-told2 .given .1) ∙ c .before .before .arrival-of .ensures)
+returns-2 c =
+    ap (afterArrival (c .before .before .before .args .self)) (sym (c .enum-told2 .given .1) ∙ c .before .before .arrival-of .ensures)
 
 returns-3 : tie.Need-returns-3
 unfolding afterByte
-returns-3 c = rw (c .with-character .ensures) (ap (afterArrival (c .before .before .before .before .before .args .self)) (sym (c .before .before .c .given .1) ∙ c .before .before .before .before .arrival-of .ensures))
+returns-3 c =
+    let l = c .before .before .before .before .before .args .self in
+    let e = sym (c .before .before .c .given .1) ∙ c .before .before .before .before .arrival-of .ensures in
+    rw (c .with-character .ensures) (ap (afterArrival l) e)
 
 pub after-spec : {M : Type 1} → statement M
 after-spec =

@@ -1,12 +1,12 @@
 -- `Line::command` meets its contract: an over-long line is malformed, any other asks for what stands behind its address.
 -- Assumes nothing.
+use Rattle.line.proofs.Collecting.{command-kept}
 use Rattle.line.specs.Addresses.{behindAddress}
 use Rattle.line.specs.Commands.{commandOf}
 use lib.ListN.{length, take, length-take, length-map}
 use mathlib.Core.List.{List}
 use Prim.Native.Nat.{ℕ}
 use mathlib.Core.Path.{_≡_, sym, ap, _∙_}
-use Rattle.line.proofs.Collecting.{take-held}
 use native.Mathlib.Omega.{arith}
 use lib.ListN.{length-take}
 use Rattle.line.specs.Lines.{commandIn}
@@ -22,10 +22,16 @@ held-requires : tie.Need-held-requires
 held-requires c κs = search needs
 
 array-share-prefix-bytes : tie.Need-array-share-prefix-bytes
-array-share-prefix-bytes c = let full : length (c .before .before .before .args .self .bytes) ≡ 40 = simp length-map at (c .before .before .before .good .0 .1 .1 .0 .1 .0 .1) in omega (arith, c .held .ensures)
+array-share-prefix-bytes c =
+    let full : length (c .before .before .before .args .self .bytes) ≡ 40 =
+    simp length-map at (c .before .before .before .good .0 .1 .1 .0 .1 .0 .1) in
+    omega (arith, c .held .ensures)
 
 slice-aggregate-unaddressed : tie.Need-slice-aggregate-unaddressed
-slice-aggregate-unaddressed c = let full : length (c .before .before .before .before .args .self .bytes) ≡ 40 = simp length-map at (c .before .before .before .before .good .0 .1 .1 .0 .1 .0 .1) in simp length-take (omega (arith, c .before .held .ensures))
+slice-aggregate-unaddressed c =
+    let full : length (c .before .before .before .before .args .self .bytes) ≡ 40 =
+    simp length-map at (c .before .before .before .before .good .0 .1 .1 .0 .1 .0 .1) in
+    simp length-take (omega (arith, c .before .held .ensures))
 
 unaddressed-requires : tie.Need-unaddressed-requires
 unaddressed-requires c κs = search needs
@@ -34,8 +40,11 @@ command-of-requires : tie.Need-command-of-requires
 command-of-requires c κs = search needs
 
 returns-2 : tie.Need-returns-2
-unfolding commandIn
-returns-2 c = c .command-of .ensures ∙ ap commandOf (c .before .unaddressed .ensures ∙ ap behindAddress (take-held (c .before .before .before .before .before .before .args .self .bytes) (c .before .before .before .before .before .before .args .self .len) _ (simp length-map at (c .before .before .before .before .before .before .good .0 .1 .1 .0 .1 .0 .1)) (c .before .before .before .held .ensures))) ∙ sym (simp (c .before .before .before .before .before .if1 .left))
+returns-2 c =
+    command-kept (c .before .before .before .before .before .before .args .self) _
+    (simp length-map at (c .before .before .before .before .before .before .good .0 .1 .1 .0 .1 .0 .1)) (c .before .before .before .held .ensures)
+    _ _ (c .before .before .before .before .before .if1 .left)
+    (c .before .unaddressed .ensures) (c .command-of .ensures)
 
 pub command-spec : {M : Type 1} → statement M
 command-spec =

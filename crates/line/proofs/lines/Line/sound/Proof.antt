@@ -1,8 +1,8 @@
 -- `Line::sound` meets its contract: the three tests.
 -- Assumes nothing.
+use Rattle.line.proofs.Collecting.{sound-kept}
 use Rattle.line.specs.Lines.{allStanding, soundLine}
 use mathlib.Core.Path.{_≡_, sym, ap, _∙_}
-use Rattle.line.proofs.Collecting.{take-held}
 use native.Mathlib.Omega.{arith}
 use lib.ListN.{length, take, length-take, length-map}
 use mathlib.Core.List.{List}
@@ -15,17 +15,25 @@ held-requires : tie.Need-held-requires
 held-requires c κs = search needs
 
 array-share-prefix-bytes : tie.Need-array-share-prefix-bytes
-array-share-prefix-bytes c = let full : length (c .before .before .before .before .args .self .bytes) ≡ 40 = simp length-map at (c .before .before .before .before .good .0 .1 .1 .0 .1 .0 .1) in omega (arith, c .held .ensures)
+array-share-prefix-bytes c =
+    let full : length (c .before .before .before .before .args .self .bytes) ≡ 40 =
+    simp length-map at (c .before .before .before .before .good .0 .1 .1 .0 .1 .0 .1) in
+    omega (arith, c .held .ensures)
 
 slice-aggregate-all-stand : tie.Need-slice-aggregate-all-stand
-slice-aggregate-all-stand c = let full : length (c .before .before .before .before .before .args .self .bytes) ≡ 40 = simp length-map at (c .before .before .before .before .before .good .0 .1 .1 .0 .1 .0 .1) in simp length-take (omega (arith, c .before .held .ensures))
+slice-aggregate-all-stand c =
+    let full : length (c .before .before .before .before .before .args .self .bytes) ≡ 40 =
+    simp length-map at (c .before .before .before .before .before .good .0 .1 .1 .0 .1 .0 .1) in
+    simp length-take (omega (arith, c .before .held .ensures))
 
 all-stand-requires : tie.Need-all-stand-requires
 all-stand-requires c κs = search needs
 
 returns : tie.Need-returns
-unfolding soundLine
-returns c = c .all-stand .ensures ∙ ap allStanding (take-held (c .before .before .before .before .before .before .args .self .bytes) (c .before .before .before .before .before .before .args .self .len) _ (simp length-map at (c .before .before .before .before .before .before .good .0 .1 .1 .0 .1 .0 .1)) (c .before .before .held .ensures)) ∙ sym (simp (c .before .before .before .before .if1 .taken))
+returns c =
+    sound-kept (c .before .before .before .before .before .before .args .self) _
+    (simp length-map at (c .before .before .before .before .before .before .good .0 .1 .1 .0 .1 .0 .1)) (c .before .before .held .ensures)
+    _ (c .before .before .before .before .if1 .taken) (c .all-stand .ensures)
 
 returns-2 : tie.Need-returns-2
 unfolding soundLine

@@ -1,7 +1,6 @@
 -- `Phase::sound` meets its contract: the three tests, one after the other.
 -- Assumes nothing.
-use mathlib.Core.Path.{sym, _∙_}
-use Rattle.program.specs.Phases.{soundPhase}
+use Rattle.program.proofs.Data.{phase-tests}
 use borrow.Author.Needs.{needs}
 use Rattle.program.proofs.phases.Phase.sound.Statement.{statement}
 use Rattle.program.proofs.phases.Phase.sound.Tie as tie
@@ -16,16 +15,13 @@ fits-requires : tie.Need-fits-requires
 fits-requires c κs = search needs
 
 returns : tie.Need-returns
-unfolding soundPhase
-returns c = rw (c .fits2 .ensures) (simp (sym (c .before .before .before .before .is-writable .ensures) ∙ c .before .before .before .if1 .taken, sym (c .before .before .is-writable2 .ensures) ∙ c .before .if2 .taken))
+returns c = search phase-tests
 
 returns-2 : tie.Need-returns-2
-unfolding soundPhase
-returns-2 c = simp (sym (c .before .before .before .is-writable .ensures) ∙ c .before .before .if1 .taken, sym (c .before .is-writable2 .ensures) ∙ c .if2 .left)
+returns-2 c = search phase-tests
 
 returns-3 : tie.Need-returns-3
-unfolding soundPhase
-returns-3 c = simp (sym (c .before .is-writable .ensures) ∙ c .if1 .left)
+returns-3 c = search phase-tests
 
 pub sound-spec : {M : Type 1} → statement M
 sound-spec =

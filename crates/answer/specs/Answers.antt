@@ -1,6 +1,5 @@
 -- The whole answer, and the buffer that it is written to.   (01, Line and answer; Calls)
 use Prim.Native.Nat.{ℕ}
-use mathlib.Core.Bool.{Bool, true, false}
 use mathlib.Core.List.{List, [], _∷_, _++_}
 use lib.Dec.{leb}
 use lib.ListN.{length, drop}

@@ -1,5 +1,5 @@
 -- The bytes that stand behind the status letter, for each case of a reply.   (01, Line and answer; the queries of Commands)
-use Prim.Native.Nat.{ℕ, _+_, _%_}
+use Prim.Native.Nat.{ℕ}
 use mathlib.Core.List.{List, [], _∷_, _++_}
 use Rattle.base.specs.Text.{letter, text}
 use Rattle.decimal.specs.Print.{digit, printed, twoDigits, tenthsPrinted}

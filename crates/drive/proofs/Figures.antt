@@ -1,7 +1,6 @@
 -- Document 01's figures of this layer, computed from the definitions: a, b, c, the diameter's ends of d and e, f, the rates of g, and the
 -- targets of h and i. One list of rows, one claim: every row holds.
 -- Assumes nothing.
-use Prim.Native.Nat.{ℕ}
 use mathlib.Core.Path.{_≡_, refl}
 use mathlib.Core.Bool.{Bool, true, not}
 use mathlib.Core.List.{List, [], _∷_}

@@ -1,13 +1,12 @@
 -- The address in front of a text, by its first two letters.
 -- Assumes nothing.
-use Prim.Native.Nat.{ℕ, _+_, _*_, _-_, _≤_, _<_}
+use Prim.Native.Nat.{ℕ, _≤_}
 use mathlib.Core.Path.{_≡_, refl, sym, ap, _∙_}
-use mathlib.Core.Bool.{Bool, true, false, _&&_}
+use mathlib.Core.Bool.{Bool, true, false}
 use mathlib.Core.List.{List, [], _∷_}
 use native.Mathlib.Omega.{arith}
-use lib.ListN.{length, getD, take, length-take}
+use lib.ListN.{length, getD, take}
 use Rattle.base.specs.If.{if_then_else_}
-use Rattle.base.proofs.Choices.{false-true}
 use Rattle.decimal.specs.Read.{isDigit, numberFrom}
 use Rattle.decimal.specs.Short.{oneOf, twoOf, joinedOf}
 use Rattle.decimal.specs.declared.short.Short.{Short}

@@ -2,14 +2,13 @@
 -- Assumes nothing.
 use Prim.Native.Nat.{ℕ, _≤_}
 use mathlib.Core.Path.{_≡_, refl, sym, ap, subst, _∙_}
-use mathlib.Core.Bool.{Bool, true, false, _&&_}
+use mathlib.Core.Bool.{Bool, true, false}
 use mathlib.Core.List.{List, [], _∷_}
 use native.Mathlib.Omega.{arith}
-use lib.Dec.{eqb, lit<}
 use lib.ListN.{length, getD}
 use borrow.Author.Tests.{ne-eqb}
 use Rattle.base.specs.If.{if_then_else_}
-use Rattle.base.specs.Text.{text, letter}
+use Rattle.base.specs.Text.{letter}
 use Rattle.base.proofs.Choices.{and-false}
 use Rattle.line.specs.Spelling.{leads}
 use Rattle.line.specs.Names.{names, nameOf, namedBy, nameAmong, lettersOf}

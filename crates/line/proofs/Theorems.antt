@@ -5,15 +5,14 @@
 --     asked-sendable   what a line asks for can be sent: its numbers are writable, its short data have two digits at the most
 -- That a name which leads a text is its name stands in Naming (name-is) and Calling (called-is).
 -- Assumes nothing.
-use Prim.Native.Nat.{ℕ, suc, _+_, _-_, _≤_, _<_, min}
+use Prim.Native.Nat.{ℕ, _+_, _-_, _≤_, _<_, min}
 use mathlib.Core.Path.{_≡_, refl, sym, ap, subst, _∙_}
 use mathlib.Core.Bool.{Bool, true, false, _&&_, _||_, not}
 use mathlib.Core.List.{List, [], _∷_, _++_, append-assoc, append-nil}
-use native.Mathlib.Nat.{add-zero}
 use native.Mathlib.Numerals.{add-one}
 use native.Mathlib.Omega.{arith}
 use lib.Dec.{leb, ltb}
-use lib.ListN.{length, take, set, length-append, length-set, length-take}
+use lib.ListN.{length, take, set, length-append, length-set}
 use lib.Seq.{take-all, take-append-le, take-suc-set}
 use borrow.Author.Tests.{lt-ltb, le-ltb, ltb-true, ltb-false, le-leb, leb-true}
 use Rattle.base.specs.If.{if_then_else_}
@@ -21,14 +20,13 @@ use Rattle.base.proofs.Choices.{and-left, and-right}
 use Rattle.line.specs.Characters.{isReturn, isDropped, isLower, raised, arrivalOf, standing}
 use Rattle.line.specs.Lines.{emptyLine, withCharacter, afterArrival, afterByte, text}
 use Rattle.line.specs.Lines.{allStanding, soundLine, commandIn, kept, overLong}
-use Rattle.line.specs.Addresses.{addressOf, behindAddress}
+use Rattle.line.specs.Addresses.{behindAddress}
 use Rattle.line.specs.Collected.{collect, characters, Holds}
 use Rattle.line.specs.Commands.{commandOf}
 use Rattle.line.specs.Sendable.{Sendable}
 use Rattle.line.specs.declared.arriving.Arrival.{Arrival}
 use Rattle.line.specs.declared.arriving.Arrival.the-variants.{End, Dropped, Kept}
 use Rattle.line.specs.declared.lines.Line.{Line}
-use Rattle.line.specs.declared.commands.Command.{Command}
 use Rattle.line.specs.declared.commands.Command.the-variants as c
 use Rattle.line.proofs.Characters.{not-dropped, below-lower}
 use Rattle.line.proofs.Sent.{command-sendable}

@@ -1,6 +1,5 @@
 -- The address in front of a text.   (01, Line and answer)
 use Prim.Native.Nat.{ℕ}
-use mathlib.Core.Bool.{Bool, true, false}
 use mathlib.Core.List.{List, [], _∷_}
 use lib.ListN.{take, drop}
 use Rattle.base.specs.If.{if_then_else_}

@@ -1,9 +1,8 @@
 -- What an argument asks for. No argument is a query; a number, a phase or a direction is a setting; anything else is malformed.
 -- A number may be out of range here: that is judged later.   (01, Commands)
 use Prim.Native.Nat.{ℕ, _-_}
-use mathlib.Core.Bool.{Bool, true, false}
-use mathlib.Core.List.{List, [], _∷_}
-use lib.Dec.{leb, ltb, eqb}
+use mathlib.Core.List.{List}
+use lib.Dec.{ltb, eqb}
 use lib.ListN.{length, getD, take}
 use Rattle.base.specs.If.{if_then_else_}
 use Rattle.base.specs.Text.{letter, text}

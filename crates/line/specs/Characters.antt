@@ -1,6 +1,6 @@
 -- What one byte does to a line, and which characters a line can hold.   (01, Line and answer)
 use Prim.Native.Nat.{ℕ, _-_}
-use mathlib.Core.Bool.{Bool, true, false, _&&_, _||_, not}
+use mathlib.Core.Bool.{Bool, _&&_, _||_, not}
 use lib.Dec.{leb, eqb}
 use Rattle.base.specs.If.{if_then_else_}
 use Rattle.line.specs.declared.arriving.Arrival.{Arrival}

@@ -1,7 +1,6 @@
 -- What stands behind FUN: a function's name, and a datum of the kind that the function takes. A missing or a needless datum is
 -- malformed; one out of range is judged later.   (01, Commands, FUN; Numbers)
 use Prim.Native.Nat.{ℕ}
-use mathlib.Core.Bool.{Bool, true, false}
 use mathlib.Core.List.{List, [], _∷_}
 use lib.Dec.{eqb}
 use lib.ListN.{length, drop}

@@ -1,6 +1,5 @@
 -- The commands' names, and the argument behind them.   (01, Line and answer; Commands)
 use Prim.Native.Nat.{ℕ}
-use mathlib.Core.Bool.{Bool, true, false}
 use mathlib.Core.List.{List, [], _∷_}
 use lib.ListN.{length, drop}
 use Rattle.base.specs.If.{if_then_else_}

@@ -1,6 +1,6 @@
 -- What a command that some line asks for can hold: its numbers can be written, its short data have at most two digits. Whoever
 -- obeys a command may rely on it (proofs/Theorems.antt, asked-sendable).   (01, Numbers; Commands)
-use Prim.Native.Nat.{ℕ, _≤_}
+use Prim.Native.Nat.{_≤_}
 use mathlib.Core.Path.{_≡_}
 use mathlib.Core.Bool.{true}
 use Rattle.decimal.specs.Writable.{writable}

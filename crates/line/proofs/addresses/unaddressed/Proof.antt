@@ -1,9 +1,7 @@
 -- `unaddressed` meets its contract: the part behind the address digits.
 -- Assumes nothing.
-use mathlib.Core.Path.{ap, _∙_}
 use Rattle.line.proofs.Leading.{part-behind}
 use Rattle.line.proofs.Addressing.{width-within}
-use native.Mathlib.Omega.{arith}
 use Rattle.line.specs.Addresses.{addressWidth, behindAddress}
 use borrow.Author.Needs.{needs}
 use Rattle.line.proofs.addresses.unaddressed.Statement.{statement}

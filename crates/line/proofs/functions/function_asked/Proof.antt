@@ -2,8 +2,6 @@
 -- Assumes nothing.
 use Rattle.line.proofs.Behind.{asks-function, some-function, no-function}
 use Rattle.line.proofs.Calling.{called-within}
-use Rattle.line.proofs.Leading.{part-behind}
-use mathlib.Core.Path.{sym, ap, _∙_}
 use borrow.Author.Needs.{needs}
 use Rattle.line.proofs.functions.function_asked.Statement.{statement}
 use Rattle.line.proofs.functions.function_asked.Tie as tie

@@ -1,8 +1,6 @@
 -- `argument_of` meets its contract: the part behind the letters of the name.
 -- Assumes nothing.
-use mathlib.Core.Path.{ap, _∙_}
-use lib.ListN.{length, drop}
-use Prim.Native.Nat.{ℕ, _≤_}
+use lib.ListN.{length}
 use Rattle.line.specs.Names.{nameOf, lettersOf, argumentOf}
 use Rattle.line.proofs.Naming.{letters-within}
 use Rattle.line.proofs.Leading.{part-behind}

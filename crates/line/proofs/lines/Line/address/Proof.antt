@@ -1,12 +1,8 @@
 -- `Line::address` meets its contract: the address in the kept characters.
 -- Assumes nothing.
 use Rattle.line.proofs.Collecting.{address-kept}
-use lib.ListN.{length, take, length-take, length-map}
-use mathlib.Core.List.{List}
-use Prim.Native.Nat.{ℕ}
-use Rattle.line.specs.Addresses.{addressOf}
-use Rattle.line.specs.Lines.{addressIn}
-use mathlib.Core.Path.{_≡_, sym, ap, _∙_}
+use lib.ListN.{length, length-take, length-map}
+use mathlib.Core.Path.{_≡_}
 use native.Mathlib.Omega.{arith}
 use lib.ListN.{length-take}
 use borrow.Author.Needs.{needs}

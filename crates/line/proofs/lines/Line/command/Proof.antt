@@ -1,12 +1,8 @@
 -- `Line::command` meets its contract: an over-long line is malformed, any other asks for what stands behind its address.
 -- Assumes nothing.
 use Rattle.line.proofs.Collecting.{command-kept}
-use Rattle.line.specs.Addresses.{behindAddress}
-use Rattle.line.specs.Commands.{commandOf}
-use lib.ListN.{length, take, length-take, length-map}
-use mathlib.Core.List.{List}
-use Prim.Native.Nat.{ℕ}
-use mathlib.Core.Path.{_≡_, sym, ap, _∙_}
+use lib.ListN.{length, length-take, length-map}
+use mathlib.Core.Path.{_≡_}
 use native.Mathlib.Omega.{arith}
 use lib.ListN.{length-take}
 use Rattle.line.specs.Lines.{commandIn}

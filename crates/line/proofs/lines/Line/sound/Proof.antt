@@ -1,12 +1,10 @@
 -- `Line::sound` meets its contract: the three tests.
 -- Assumes nothing.
 use Rattle.line.proofs.Collecting.{sound-kept}
-use Rattle.line.specs.Lines.{allStanding, soundLine}
-use mathlib.Core.Path.{_≡_, sym, ap, _∙_}
+use Rattle.line.specs.Lines.{soundLine}
+use mathlib.Core.Path.{_≡_}
 use native.Mathlib.Omega.{arith}
-use lib.ListN.{length, take, length-take, length-map}
-use mathlib.Core.List.{List}
-use Prim.Native.Nat.{ℕ}
+use lib.ListN.{length, length-take, length-map}
 use borrow.Author.Needs.{needs}
 use Rattle.line.proofs.lines.Line.sound.Statement.{statement}
 use Rattle.line.proofs.lines.Line.sound.Tie as tie

@@ -1,0 +1,14 @@
+-- `Run::fresh` meets its contract.
+-- Assumes nothing.
+use borrow.Author.Needs.{needs}
+use Rattle.engine.proofs.state.Run.fresh.Statement.{statement}
+use Rattle.engine.proofs.state.Run.fresh.Tie as tie
+
+none-requires : tie.Need-none-requires
+none-requires c κs = search needs
+
+returns : tie.Need-returns
+returns c = rw (c .none .ensures)
+
+pub fresh-spec : {M : Type 1} → statement M
+fresh-spec = tie.close (tie.spec none-requires returns)

@@ -1,0 +1,229 @@
+// Whether a core is sound, with its current phase in hand. Bool results are joined by `&` and `|`, so that each clause is a value.
+ghost use mathlib.Core.Path.{_≡_};
+ghost use Prim.Native.Nat.{_≤_};
+ghost use Rattle.engine.specs.Sound.{soundTrap, soundSlot, soundLoops, usableRate, soundVisit, waits, soundWork};
+ghost use Rattle.engine.specs.Sound.{isEntering, isNoTrap, isNoRate, isNoAlarm, soundMode, soundRun, soundRanges, soundCore};
+ghost use Rattle.engine.specs.Entering.{ratio};
+use crate::loops::Loops;
+use crate::state::Core;
+use crate::state::Mode;
+use crate::state::Pending;
+use crate::state::Rate;
+use crate::state::Run;
+use crate::state::Trap;
+use crate::state::Work;
+use crate::visits::Visit;
+use crate::working::MOST_TOTAL;
+use program::Function;
+use program::Phase;
+
+impl Core {
+    // `here` is the current phase.
+    pub fn sound(self, here: Phase, phases: u8) -> bool
+        requires { ⌜ phases ≤ 99 ⌝ }
+        ensures { λ r. ⌜ r ≡ soundCore phases self here ⌝ }
+    {
+        if self.sound_ranges(phases) {
+            let run = self.run;
+            let place = run.place;
+            let work = place.work;
+            let rate = run.rate;
+            return work.sound(self.diameter, here, rate);
+        }
+        false
+    }
+
+    fn sound_ranges(self, phases: u8) -> bool
+        requires { ⌜ phases ≤ 99 ⌝ }
+        ensures { λ r. ⌜ r ≡ soundRanges phases self ⌝ }
+    {
+        let d = self.diameter as u32;
+        let run = self.run;
+        drive::is_diameter(d)
+            & decimal::is_writable(d)
+            & (1 <= self.chosen)
+            & (self.chosen <= phases)
+            & (self.totals.infused <= MOST_TOTAL)
+            & (self.totals.withdrawn <= MOST_TOTAL)
+            & run.sound(phases)
+    }
+}
+
+impl Run {
+    fn sound(self, phases: u8) -> bool
+        requires { ⌜ phases ≤ 99 ⌝ }
+        ensures { λ r. ⌜ r ≡ soundRun phases self ⌝ }
+    {
+        let rate = self.rate;
+        let trap = self.trap;
+        let loops = self.loops;
+        let n = self.place.current;
+        (1 <= n)
+            & (n <= phases + 1)
+            & (rate.thousandths() <= decimal::MOST)
+            & trap.sound(phases)
+            & loops.sound(phases)
+            & self.sound_mode()
+    }
+
+    // A stopped pump has nothing under way; only it may have an alarm.
+    fn sound_mode(self) -> bool
+        ensures { λ r. ⌜ r ≡ soundMode self (self .mode) ⌝ }
+    {
+        let mode = self.mode;
+        let alarm = self.alarm;
+        match mode {
+            Mode::Stopped => {
+                let place = self.place;
+                let work = place.work;
+                let trap = self.trap;
+                let rate = self.rate;
+                work.is_entering() & trap.is_none() & (self.loops.count == 0) & rate.is_none()
+            }
+            Mode::Paused => alarm.is_none(),
+            Mode::Running => alarm.is_none(),
+        }
+    }
+}
+
+impl Work {
+    fn sound(self, d: u16, here: Phase, rate: Rate) -> bool
+        ensures { λ r. ⌜ r ≡ soundWork d here rate self ⌝ }
+    {
+        let function = here.function;
+        match self {
+            Work::Entering => true,
+            Work::Visiting(visit) => visit.sound(d, here, rate),
+            Work::Pausing(left) => (1 <= left) & (left <= function.pause_ticks()),
+            Work::Waiting => is_wait(function),
+        }
+    }
+
+    fn is_entering(self) -> bool
+        ensures { λ r. ⌜ r ≡ isEntering self ⌝ }
+    {
+        match self {
+            Work::Entering => true,
+            Work::Visiting(_) => false,
+            Work::Pausing(_) => false,
+            Work::Waiting => false,
+        }
+    }
+}
+
+impl Visit {
+    fn sound(self, d: u16, here: Phase, rate: Rate) -> bool
+        ensures { λ r. ⌜ r ≡ soundVisit d here rate self ⌝ }
+    {
+        let function = here.function;
+        let threshold = drive::step_threshold(d);
+        let target = drive::step_target(d, here.volume);
+        (self.store < threshold)
+            & (self.target == target)
+            & ((self.given < self.target) | (self.target == 0) & (self.given == 0))
+            & rate.usable(d)
+            & function.pumps()
+    }
+}
+
+impl Rate {
+    fn thousandths(self) -> u32
+        ensures { λ r. ⌜ r ≡ ratio self ⌝ }
+    {
+        match self {
+            Rate::NoRate => 0,
+            Rate::Current(r, _) => r,
+        }
+    }
+
+    fn is_none(self) -> bool
+        ensures { λ r. ⌜ r ≡ isNoRate self ⌝ }
+    {
+        match self {
+            Rate::NoRate => true,
+            Rate::Current(_, _) => false,
+        }
+    }
+
+    fn usable(self, d: u16) -> bool
+        ensures { λ r. ⌜ r ≡ usableRate d self ⌝ }
+    {
+        match self {
+            Rate::NoRate => false,
+            Rate::Current(r, unit) => drive::is_usable(d, r, unit),
+        }
+    }
+}
+
+impl Trap {
+    fn sound(self, phases: u8) -> bool
+        ensures { λ r. ⌜ r ≡ soundTrap phases self ⌝ }
+    {
+        match self {
+            Trap::NoTrap => true,
+            Trap::Armed(n) => (1 <= n) & (n <= phases),
+        }
+    }
+
+    fn is_none(self) -> bool
+        ensures { λ r. ⌜ r ≡ isNoTrap self ⌝ }
+    {
+        match self {
+            Trap::NoTrap => true,
+            Trap::Armed(_) => false,
+        }
+    }
+}
+
+impl Pending {
+    fn is_none(self) -> bool
+        ensures { λ r. ⌜ r ≡ isNoAlarm self ⌝ }
+    {
+        match self {
+            Pending::NoAlarm => true,
+            Pending::Raised(_) => false,
+        }
+    }
+}
+
+impl Loops {
+    // The places where no loop is open are asked nothing.
+    fn sound(self, phases: u8) -> bool
+        ensures { λ r. ⌜ r ≡ soundLoops phases self ⌝ }
+    {
+        let a = self.slots[0];
+        let b = self.slots[1];
+        let c = self.slots[2];
+        let count = self.count;
+        (count <= 3)
+            & ((count <= 0) | (a.begun <= phases) & (a.passes <= 98))
+            & ((count <= 1) | (b.begun <= phases) & (b.passes <= 98))
+            & ((count <= 2) | (c.begun <= phases) & (c.passes <= 98))
+            & ((count <= 1) | !(a.begun == b.begun))
+            & ((count <= 2) | !(a.begun == c.begun))
+            & ((count <= 2) | !(b.begun == c.begun))
+    }
+}
+
+// PAS 0
+fn is_wait(function: Function) -> bool
+    ensures { λ r. ⌜ r ≡ waits function ⌝ }
+{
+    match function {
+        Function::Rat => false,
+        Function::Inc => false,
+        Function::Dec => false,
+        Function::Stp => false,
+        Function::Jmp(_) => false,
+        Function::Lop(_) => false,
+        Function::Lps => false,
+        Function::Lpe => false,
+        Function::Pas(n) => n == 0,
+        Function::Tenths(_) => false,
+        Function::If(_) => false,
+        Function::Evn(_) => false,
+        Function::Evr => false,
+        Function::Bep => false,
+        Function::Out(_) => false,
+    }
+}

@@ -1,0 +1,82 @@
+// The core of the state: small structs, nested, so that a rule alters one part and carries the rest whole.
+use crate::loops::Loops;
+use crate::visits::Visit;
+use answer::Alarm;
+use drive::RateUnit;
+
+// What the current phase is doing: it is entered where a visit, a timed pause (with its ticks left) or a trigger wait is under way.
+pub enum Work {
+    Entering,
+    Visiting(Visit),
+    Pausing(u32),
+    Waiting,
+}
+
+// Where the program stands.
+pub struct Place {
+    pub work: Work,
+    pub current: u8,
+}
+
+// The current rate, in thousandths of its units.
+pub enum Rate {
+    NoRate,
+    Current(u32, RateUnit),
+}
+
+// The phase that a set trap jumps to.
+pub enum Trap {
+    NoTrap,
+    Armed(u8),
+}
+
+pub enum Mode {
+    Stopped,
+    Paused,
+    Running,
+}
+
+pub enum Pending {
+    NoAlarm,
+    Raised(Alarm),
+}
+
+// The program under way: starting, stopping and alarms replace it whole.
+pub struct Run {
+    pub place: Place,
+    pub rate: Rate,
+    pub loops: Loops,
+    pub trap: Trap,
+    pub alarm: Pending,
+    pub mode: Mode,
+}
+
+// The levels: true is high. The output's level stands beside those of the pins.
+pub struct Pins {
+    pub two: bool,
+    pub four: bool,
+    pub six: bool,
+    pub output: bool,
+}
+
+// What was given in each direction since it was last cleared, in fl.
+pub struct Totals {
+    pub infused: u64,
+    pub withdrawn: u64,
+}
+
+pub struct Core {
+    pub totals: Totals,
+    pub run: Run,
+    pub diameter: u16,
+    pub pins: Pins,
+    pub chosen: u8,
+}
+
+// What a tick does: the next core, the steps in each direction, and whether it beeps.
+pub struct Moved {
+    pub core: Core,
+    pub infused: u8,
+    pub withdrawn: u8,
+    pub beep: bool,
+}

@@ -1,0 +1,98 @@
+// One tick: it enters the current phase or works the entered one; nothing moves unless the program runs.
+ghost use mathlib.Core.Path.{_≡_};
+ghost use Rattle.engine.specs.Ticks.{beeps, enter, entered, tickOf};
+ghost use Rattle.engine.specs.Sound.{Ready};
+use crate::state::Core;
+use crate::state::Mode;
+use crate::state::Moved;
+use crate::state::Rate;
+use crate::state::Work;
+use program::Function;
+use program::Phase;
+
+impl Core {
+    // A tick, with the current phase in hand.
+    pub fn tick(self, here: Phase, phases: u8) -> Moved
+        requires { ⌜ Ready phases self here ⌝ }
+        ensures { λ r. ⌜ r ≡ tickOf self here ⌝ }
+    {
+        let run = self.run;
+        let place = run.place;
+        let mode = run.mode;
+        let work = place.work;
+        let rate = run.rate;
+        match mode {
+            Mode::Stopped => self.silent(),
+            Mode::Paused => self.silent(),
+            Mode::Running => match work {
+                Work::Entering => self.entered(here, phases),
+                Work::Visiting(visit) => self.work_visit(here, visit, rate),
+                Work::Pausing(left) => self.work_pause(left).silent(),
+                Work::Waiting => self.silent(),
+            },
+        }
+    }
+
+    // Entering gives no step, and only BEP beeps.
+    fn entered(self, here: Phase, phases: u8) -> Moved
+        requires { ⌜ Ready phases self here ⌝ }
+        ensures { λ r. ⌜ r ≡ entered self here ⌝ }
+    {
+        let function = here.function;
+        Moved {
+            core: self.enter(here, phases),
+            infused: 0,
+            withdrawn: 0,
+            beep: is_beep(function),
+        }
+    }
+
+    fn enter(self, here: Phase, phases: u8) -> Core
+        requires { ⌜ Ready phases self here ⌝ }
+        ensures { λ r. ⌜ r ≡ enter self here ⌝ }
+    {
+        let function = here.function;
+        let unit = here.unit;
+        let run = self.run;
+        let rate = run.rate;
+        match function {
+            Function::Rat => self.enter_rate(here, Rate::Current(here.rate, unit)),
+            Function::Inc => self.enter_rate(here, rate.raised_by(here.rate)),
+            Function::Dec => self.enter_rate(here, rate.lowered_by(here.rate)),
+            Function::Stp => self.stopped(),
+            Function::Jmp(n) => self.to_phase(n),
+            Function::Lop(n) => self.pass_loop(n),
+            Function::Lps => self.start_loop(),
+            Function::Lpe => self.end_loop(),
+            Function::Pas(_) => self.enter_pause(function.pause_ticks()),
+            Function::Tenths(_) => self.enter_pause(function.pause_ticks()),
+            Function::If(n) => self.jump_if(n),
+            Function::Evn(n) => self.arm_trap(n),
+            Function::Evr => self.clear_trap(),
+            Function::Bep => self.to_next(),
+            Function::Out(level) => self.set_output(level),
+        }
+    }
+}
+
+fn is_beep(function: Function) -> bool
+    ensures { λ r. ⌜ r ≡ beeps function ⌝ }
+{
+    match function {
+        Function::Rat => false,
+        Function::Inc => false,
+        Function::Dec => false,
+        Function::Stp => false,
+        Function::Jmp(_) => false,
+        Function::Lop(_) => false,
+        Function::Lps => false,
+        Function::Lpe => false,
+        Function::Pas(_) => false,
+        Function::Tenths(_) => false,
+        Function::If(_) => false,
+        Function::Evn(_) => false,
+        Function::Evr => false,
+        Function::Bep => true,
+        Function::Out(_) => false,
+    }
+}

@@ -1,0 +1,19 @@
+-- That a sound core stays sound.
+pub mod Parts
+pub mod LoopsKept
+pub mod Going
+pub mod VisitsKept
+pub mod RatesKept
+pub mod JumpsKept
+pub mod EnteringKept
+pub mod WorkingKept
+pub mod TicksKept
+pub mod RunsKept
+pub mod EdgesKept
+pub mod PhasesSet
+pub mod Obeying
+pub mod SettingsKept
+pub mod RatesSet
+pub mod DirectionsKept
+pub mod ControlKept
+pub mod CommandsKept

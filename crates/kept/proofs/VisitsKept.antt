@@ -1,0 +1,80 @@
+-- A visit that is begun is sound, and one that goes on after a working tick stays so.
+-- Assumes nothing.
+use Prim.Native.Nat.{ℕ, _+_, _<_}
+use mathlib.Core.Path.{_≡_, refl}
+use mathlib.Core.Bool.{Bool, true, false, _&&_, _||_}
+use native.Mathlib.Nat.{mod-lt}
+use native.Mathlib.Omega.{arith}
+use lib.Dec.{leb, ltb, eqb}
+use borrow.Author.Tests.{leb-false, lt-ltb, eq-eqb, eqb-false, ltb-true, ltb-false, eqb-true}
+use Rattle.base.specs.If.{if_then_else_}
+use Rattle.base.proofs.Each.{each, all-of}
+use Rattle.drive.specs.Syringe.{threshold, target}
+use Rattle.program.specs.Functions.{pumps}
+use Rattle.program.specs.declared.phases.Phase.{Phase}
+use Rattle.engine.specs.Sound.{usableRate, visitTests, soundVisit}
+use Rattle.engine.specs.Visits.{stepsOf, givenOf, storeOf, workedOf, doneOf}
+use Rattle.engine.specs.declared.state.Rate.{Rate}
+use Rattle.engine.specs.declared.visits.Visit.{Visit}
+
+above-zero : (n : ℕ) → (n ≡ 0 → ⊥) → 0 < n
+above-zero n k = go (ltb 0 n) refl
+  where
+    go : (t : Bool) → ltb 0 n ≡ t → 0 < n
+    go true e = ltb-true 0 n e
+    go false e = absurd (k (omega (arith, ltb-false 0 n e)))
+
+-- a continuous visit counts none, and any other has given fewer steps than its target
+abbrev counts : ℕ → ℕ → Bool
+counts given target = ltb given target || eqb target 0 && eqb given 0
+
+none-given : (target : ℕ) → counts 0 target ≡ true
+none-given target = go (eqb target 0) refl
+  where
+    go : (t : Bool) → eqb target 0 ≡ t → (ltb 0 target || t && true) ≡ true
+    go true e = rw (eqb-true target 0 e)
+    go false e = simp (lt-ltb 0 target (above-zero target (eqb-false target 0 e)))
+
+pub begun-sound :
+    (d : ℕ) (p : Phase) (rate : Rate)
+    → 0 < threshold d
+    → usableRate d rate ≡ true
+    → pumps (p .function) ≡ true
+    → soundVisit d p rate (record { given = 0; target = target d (p .volume); store = 0 }) ≡ true
+unfolding soundVisit
+begun-sound d p rate h u k =
+    all-of (visitTests d p rate (record { given = 0; target = target d (p .volume); store = 0 }))
+    (lt-ltb 0 (threshold d) h, (eq-eqb (target d (p .volume)) _ refl, (none-given (target d (p .volume)), (u, (k, tt)))))
+
+-- steps given stay below the target of a visit that is not done
+below :
+    (target given more : ℕ) (t : Bool)
+    → eqb target 0 ≡ t
+    → (ltb given target || t && eqb given 0) ≡ true
+    → (ltb 0 target && leb target (if t then given else more)) ≡ false
+    → (ltb (if t then given else more) target || t && eqb (if t then given else more) 0) ≡ true
+below target given more true e h d = h
+below target given more false e h d =
+    let positive = lt-ltb 0 target (above-zero target (eqb-false target 0 e)) in
+    let few : more < target = leb-false target more (simp positive at d) in
+    simp (lt-ltb more target few)
+
+pub worked-sound :
+    (d : ℕ) (p : Phase) (rate : Rate) (v : Visit) (hourly : ℕ)
+    → 0 < threshold d
+    → soundVisit d p rate v ≡ true
+    → doneOf (workedOf v hourly (threshold d)) ≡ false
+    → soundVisit d p rate (workedOf v hourly (threshold d)) ≡ true
+unfolding soundVisit workedOf givenOf storeOf doneOf
+worked-sound d p rate v hourly h s n =
+    let t = each (visitTests d p rate v) s in
+    all-of (visitTests d p rate (workedOf v hourly (threshold d))) (
+      lt-ltb _ _ (mod-lt (v .store + hourly) h),
+      (
+        t .1 .0,
+        (
+          below (v .target) (v .given) (v .given + stepsOf v hourly (threshold d)) (eqb (v .target) 0) refl (t .1 .1 .0) n,
+          (t .1 .1 .1 .0, (t .1 .1 .1 .1 .0, tt)),
+        ),
+      ),
+    )

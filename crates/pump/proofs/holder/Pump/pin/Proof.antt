@@ -1,0 +1,55 @@
+-- `Pump::pin` meets its contract, whatever it is given.
+-- Assumes nothing.
+use Rattle.pump.proofs.Calling.{handy-now, pins}
+use borrow.Author.Needs.{needs}
+use Rattle.pump.proofs.holder.Pump.pin.Statement.{statement}
+use Rattle.pump.proofs.holder.Pump.pin.Tie as tie
+
+sound-requires : tie.Need-sound-requires
+sound-requires c κs = search needs
+
+levelled-requires : tie.Need-levelled-requires
+levelled-requires c κs = search handy-now
+
+returns : tie.Need-returns
+returns c = search pins
+
+levelled-requires-2 : tie.Need-levelled-requires-2
+levelled-requires-2 c κs = search handy-now
+
+returns-2 : tie.Need-returns-2
+returns-2 c = search pins
+
+levelled-requires-3 : tie.Need-levelled-requires-3
+levelled-requires-3 c κs = search handy-now
+
+returns-3 : tie.Need-returns-3
+returns-3 c = search pins
+
+refused-requires : tie.Need-refused-requires
+refused-requires c κs = search needs
+
+returns-4 : tie.Need-returns-4
+returns-4 c = search pins
+
+refused-requires-2 : tie.Need-refused-requires-2
+refused-requires-2 c κs = search needs
+
+returns-5 : tie.Need-returns-5
+returns-5 c = search pins
+
+pub pin-spec : {M : Type 1} → statement M
+pin-spec =
+    tie.close
+    (tie.spec
+    sound-requires
+    levelled-requires
+    returns
+    levelled-requires-2
+    returns-2
+    levelled-requires-3
+    returns-3
+    refused-requires
+    returns-4
+    refused-requires-2
+    returns-5)

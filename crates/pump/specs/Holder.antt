@@ -1,0 +1,58 @@
+-- The pump's state: the phase of a number, power-up, and when the whole is sound.   (01, Calls; Commands, Power-up; Ticks and phases)
+use Prim.Native.Nat.{ℕ, _-_}
+use mathlib.Core.Bool.{Bool, true, _&&_}
+use mathlib.Core.List.{List, [], _∷_}
+use lib.ListN.{getD, set, replicate}
+use Rattle.base.specs.If.{if_then_else_}
+use Rattle.engine.specs.Control.{powerUpCore}
+use Rattle.engine.specs.Queries.{operating}
+use Rattle.engine.specs.Sound.{soundCore}
+use Rattle.engine.specs.declared.state.Core.{Core}
+use Rattle.line.specs.Lines.{emptyLine, soundLine}
+use Rattle.line.specs.declared.lines.Line.{Line}
+use Rattle.program.specs.Functions.{isPhase}
+use Rattle.program.specs.Phases.{idle, powerUp, soundPhase}
+use Rattle.program.specs.declared.functions.Function.the-variants as f
+use Rattle.program.specs.declared.phases.Phase.{Phase}
+use Rattle.pump.specs.declared.holder.Pump.{Pump}
+
+-- how many phases there are
+abbrev pub phaseCount : ℕ
+phaseCount = 41
+
+-- what stands where there is no phase: entering it stops the pump
+abbrev pub stopPhase : Phase
+stopPhase = idle f.Stp
+
+-- the phase of a number, counted from 1
+unfoldable pub phaseAt : List Phase → ℕ → Phase
+phaseAt ps n = getD (stopPhase ∷ ps) n stopPhase
+
+-- ---- one part replaced
+abbrev pub withCore : Pump → Core → Pump
+withCore p x = record { phases = p .phases; core = x; line = p .line }
+
+abbrev pub withLine : Pump → Line → Pump
+withLine p x = record { phases = p .phases; core = p .core; line = x }
+
+unfoldable pub withPhase : Pump → ℕ → Phase → Pump
+withPhase p n x =
+    if isPhase phaseCount n then record { phases = set (p .phases) (n - 1) x; core = p .core; line = p .line } else p
+
+-- ---- power-up: phase 1 RAT, others STP, and the line empty
+unfoldable pub freshPump : Pump
+freshPump = record { phases = set (replicate phaseCount (powerUp 2)) 0 (powerUp 1); core = powerUpCore; line = emptyLine }
+
+-- ---- the phase that a command concerns: the running one while operating, else the one chosen by PHN
+unfoldable pub inHand : Pump → ℕ
+inHand p = if operating (p .core) then p .core .run .place .current else p .core .chosen
+
+-- ---- sound: every phase, the core with its current phase, the line
+unfoldable pub soundPhases : List Phase → Bool
+soundPhases [] = true
+soundPhases (p ∷ ps) = soundPhase phaseCount p && soundPhases ps
+
+unfoldable pub soundPump : Pump → Bool
+soundPump p =
+    soundPhases (p .phases)
+    && (soundCore phaseCount (p .core) (phaseAt (p .phases) (p .core .run .place .current)) && soundLine (p .line))

@@ -1,0 +1,40 @@
+-- What every call hands back, and the refusals with their numbers.   (01, Calls)
+use Prim.Native.Nat.{ℕ}
+use Rattle.base.specs.If.{if_then_else_}
+use Rattle.engine.specs.declared.state.Moved.{Moved}
+use Rattle.pump.specs.Holder.{withCore}
+use Rattle.pump.specs.declared.holder.Pump.{Pump}
+use Rattle.pump.specs.declared.reports.Refusal.{Refusal}
+use Rattle.pump.specs.declared.reports.Refusal.the-variants.{Accepted, ShortBuffer, NoPin, NoLevel, Unsound}
+use Rattle.pump.specs.declared.reports.Report.{Report}
+
+-- each refusal's number in the table; 0 is none
+abbrev pub numberOf : Refusal → ℕ
+numberOf Accepted = 0
+numberOf ShortBuffer = 1
+numberOf NoPin = 2
+numberOf NoLevel = 3
+numberOf Unsound = 4
+
+-- the given state, no step, no beep, no answer
+abbrev pub refused : Pump → Refusal → Report
+refused p refusal =
+    record { pump = p; length = 0; infused = 0; withdrawn = 0; beeps = 0; refusal = refusal; output = p .core .pins .output }
+
+-- no step, and an answer of that length
+abbrev pub reported : Pump → ℕ → Report
+reported p n =
+    record { pump = p; length = n; infused = 0; withdrawn = 0; beeps = 0; refusal = Accepted; output = p .core .pins .output }
+
+-- what a tick did
+abbrev pub movedBy : Pump → Moved → Report
+movedBy p m =
+    record {
+      pump = withCore p (m .core);
+      length = 0;
+      infused = m .infused;
+      withdrawn = m .withdrawn;
+      beeps = if m .beep then 1 else 0;
+      refusal = Accepted;
+      output = m .core .pins .output;
+    }

@@ -1,0 +1,90 @@
+// What every call hands back, and the refusals.
+ghost use mathlib.Core.Path.{_≡_};
+ghost use Rattle.pump.specs.Reports.{numberOf, refused, reported, movedBy};
+use crate::holder::Pump;
+use engine::Moved;
+
+pub enum Refusal {
+    Accepted,
+    ShortBuffer,
+    NoPin,
+    NoLevel,
+    Unsound,
+}
+
+impl Refusal {
+    // The number in document 01's table; 0 where nothing was refused.
+    pub fn number(self) -> u8
+        ensures { λ r. ⌜ r ≡ numberOf self ⌝ }
+    {
+        match self {
+            Refusal::Accepted => 0,
+            Refusal::ShortBuffer => 1,
+            Refusal::NoPin => 2,
+            Refusal::NoLevel => 3,
+            Refusal::Unsound => 4,
+        }
+    }
+}
+
+// The pump as it is then, the steps in each direction, the beeps, the length of the answer, the refusal, and the output's level.
+pub struct Report {
+    pub pump: Pump,
+    pub length: usize,
+    pub infused: u32,
+    pub withdrawn: u32,
+    pub beeps: u32,
+    pub refusal: Refusal,
+    pub output: bool,
+}
+
+impl Pump {
+    // The given state, no step, no beep, nothing written.
+    pub fn refused(self, refusal: Refusal) -> Report
+        ensures { λ r. ⌜ r ≡ refused self refusal ⌝ }
+    {
+        let output = self.core.pins.output;
+        Report {
+            pump: self,
+            length: 0,
+            infused: 0,
+            withdrawn: 0,
+            beeps: 0,
+            refusal: refusal,
+            output: output,
+        }
+    }
+
+    // A call that gives no step, with the length of the answer that it wrote.
+    pub fn reported(self, length: usize) -> Report
+        ensures { λ r. ⌜ r ≡ reported self length ⌝ }
+    {
+        let output = self.core.pins.output;
+        Report {
+            pump: self,
+            length: length,
+            infused: 0,
+            withdrawn: 0,
+            beeps: 0,
+            refusal: Refusal::Accepted,
+            output: output,
+        }
+    }
+
+    // A tick.
+    pub fn moved_by(self, moved: Moved) -> Report
+        ensures { λ r. ⌜ r ≡ movedBy self moved ⌝ }
+    {
+        let core = moved.core;
+        let output = core.pins.output;
+        Report {
+            pump: self.with_core(core),
+            length: 0,
+            infused: moved.infused as u32,
+            withdrawn: moved.withdrawn as u32,
+            beeps: moved.beep as u32,
+            refusal: Refusal::Accepted,
+            output: output,
+        }
+    }
+}

@@ -1,0 +1,161 @@
+-- Power-up, a tick and a pin level: the state is whole, and it stays so.
+-- Assumes nothing.
+use Prim.Native.Nat.{ℕ, zero, suc, _≤_}
+use mathlib.Core.Path.{_≡_, refl, ap}
+use mathlib.Core.Bool.{Bool, true, false}
+use mathlib.Core.List.{List, [], _∷_}
+use native.Mathlib.Nat.{le-of-suc-le-suc, not-suc-le-zero}
+use native.Mathlib.Omega.{arith}
+use lib.Dec.{ltb, eqb}
+use lib.ListN.{length, getD}
+use Rattle.base.specs.If.{if_then_else_}
+use Rattle.base.proofs.Each.{and-both}
+use Rattle.decimal.specs.Writable.{writable}
+use Rattle.engine.specs.Edges.{pinTwo, pinFour, pinSix}
+use Rattle.engine.specs.declared.state.Core.{Core}
+use Rattle.kept.specs.Kept.{Table, Kept}
+use Rattle.kept.proofs.ControlKept.{power-up-sound}
+use Rattle.kept.proofs.EdgesKept.{pin-two-kept, pin-four-kept, pin-six-kept}
+use Rattle.kept.proofs.TicksKept.{tick-kept}
+use Rattle.line.specs.Lines.{soundLine}
+use Rattle.line.proofs.Theorems.{empty-sound}
+use Rattle.program.specs.Phases.{powerUp, soundPhase}
+use Rattle.program.specs.declared.phases.Phase.{Phase}
+use Rattle.pump.specs.Calls.{tickCall, edged, levelled, pinCall, ticked}
+use Rattle.pump.specs.Holder.{phaseCount, stopPhase, phaseAt, withCore, freshPump, soundPhases, soundPump}
+use Rattle.pump.specs.Reports.{refused, reported}
+use Rattle.pump.specs.declared.holder.Pump.{Pump}
+use Rattle.pump.specs.declared.reports.Refusal.the-variants.{NoPin, NoLevel, Unsound}
+use Rattle.pump.specs.declared.reports.Report.{Report}
+use Rattle.pump.proofs.Phases.{sound-at, pump-phases, pump-core, pump-line}
+use Rattle.statement.specs.Histories.{Whole}
+
+-- ---- the phases of a pump are a table, and the one past the last stops
+get-past : (ps : List Phase) (i : ℕ) → length ps ≤ i → getD ps i stopPhase ≡ stopPhase
+get-past [] zero h = refl
+get-past [] (suc i) h = refl
+get-past (x ∷ ps) zero h = absurd (not-suc-le-zero h)
+get-past (x ∷ ps) (suc i) h = get-past ps i (le-of-suc-le-suc h)
+
+past-stops : (ps : List Phase) → length ps ≡ 41 → phaseAt ps 42 ≡ stopPhase
+unfolding phaseAt
+past-stops ps h = get-past ps 41 (omega arith)
+
+pub table-of : (ps : List Phase) → length ps ≡ 41 → soundPhases ps ≡ true → Table phaseCount (phaseAt ps)
+table-of ps h e =
+    record { few = omega arith; every = λ n. sound-at ps n e; past = ap (λ (x : Phase). x .function) (past-stops ps h) }
+
+-- ---- a sound pump from its parts
+pub pump-sound :
+    (p : Pump)
+    → soundPhases (p .phases) ≡ true
+    → Kept phaseCount (phaseAt (p .phases)) (p .core)
+    → soundLine (p .line) ≡ true
+    → soundPump p ≡ true
+unfolding soundPump
+pump-sound p a b c = and-both _ _ a (and-both _ _ b c)
+
+-- ---- power-up
+fresh-phases : soundPhases (freshPump .phases) ≡ true
+unfolding soundPhases freshPump soundPhase writable powerUp
+fresh-phases = refl
+
+fresh-core : Kept phaseCount (phaseAt (freshPump .phases)) (freshPump .core)
+unfolding freshPump
+fresh-core = power-up-sound phaseCount (omega arith) _
+
+fresh-line : soundLine (freshPump .line) ≡ true
+unfolding freshPump
+fresh-line = empty-sound
+
+pub power-up-whole : soundPump freshPump ≡ true
+power-up-whole = pump-sound freshPump fresh-phases fresh-core fresh-line
+
+fresh-full : length (freshPump .phases) ≡ 41
+unfolding freshPump powerUp
+fresh-full = refl
+
+fresh-places : length (freshPump .line .bytes) ≡ 40
+unfolding freshPump
+fresh-places = refl
+
+pub fresh-whole : Whole freshPump
+fresh-whole = record { full = fresh-full; places = fresh-places; sound = power-up-whole }
+
+-- ---- another core that is sound among the phases
+pub core-sound :
+    (p : Pump) → soundPump p ≡ true → (s : Core) → Kept phaseCount (phaseAt (p .phases)) s → soundPump (withCore p s) ≡ true
+core-sound p e s k = pump-sound (withCore p s) (pump-phases p e) k (pump-line p e)
+
+module _ (p : Pump) (h : length (p .phases) ≡ 41) (e : soundPump p ≡ true) where
+  pub table-here : Table phaseCount (phaseAt (p .phases))
+  table-here = table-of (p .phases) h (pump-phases p e)
+
+  -- ---- a tick
+  ticked-whole : soundPump (ticked p .pump) ≡ true
+  ticked-whole = core-sound p e _ (tick-kept phaseCount (phaseAt (p .phases)) table-here (p .core) (pump-core p e))
+
+  pub tick-whole : soundPump (tickCall p .pump) ≡ true
+  unfolding tickCall
+  tick-whole = go (soundPump p)
+    where
+      go : (t : Bool) → soundPump (if_then_else_ {A = Report} t (ticked p) (refused p Unsound) .pump) ≡ true
+      go true = ticked-whole
+      go false = e
+
+  -- ---- a pin level
+  edged-whole : (pin : ℕ) (high : Bool) → soundPump (edged p pin high) ≡ true
+  unfolding edged
+  edged-whole pin high = go (eqb pin 2) (eqb pin 4)
+    where
+      look : ℕ → Phase
+      look = phaseAt (p .phases)
+
+      go :
+          (t u : Bool)
+          → soundPump
+          (if t
+          then withCore p (pinTwo (p .core) high)
+          else if u
+          then withCore p (pinFour (p .core) high)
+          else withCore p (pinSix (p .core) high))
+          ≡ true
+      go true u = core-sound p e _ (pin-two-kept phaseCount look table-here (p .core) (pump-core p e) high)
+      go false true = core-sound p e _ (pin-four-kept phaseCount look table-here (p .core) (pump-core p e) high)
+      go false false = core-sound p e _ (pin-six-kept phaseCount look table-here (p .core) (pump-core p e) high)
+
+  levelled-whole : (pin level : ℕ) → soundPump (levelled p pin level .pump) ≡ true
+  unfolding levelled
+  levelled-whole pin level = go (ltb 1 level)
+    where
+      go : (t : Bool)
+          → soundPump (if_then_else_ {A = Report} t (refused p NoLevel) (reported (edged p pin (eqb level 1)) 0) .pump) ≡ true
+      go true = e
+      go false = edged-whole pin (eqb level 1)
+
+  pub pin-whole : (pin level : ℕ) → soundPump (pinCall p pin level .pump) ≡ true
+  unfolding pinCall
+  pin-whole pin level = go (soundPump p) (eqb pin 2) (eqb pin 4) (eqb pin 6)
+    where
+      done : soundPump (levelled p pin level .pump) ≡ true
+      done = levelled-whole pin level
+
+      go :
+          (s t u v : Bool)
+          → soundPump
+          (if_then_else_ {A = Report} s
+          (if t
+          then levelled p pin level
+          else if u
+          then levelled p pin level
+          else if v
+          then levelled p pin level
+          else refused p NoPin)
+          (refused p Unsound)
+          .pump)
+          ≡ true
+      go true true u v = done
+      go true false true v = done
+      go true false false true = done
+      go true false false false = e
+      go false t u v = e

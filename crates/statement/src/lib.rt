@@ -1,0 +1,1 @@
+// No code: the theorems on every history of calls, from power-up on.

@@ -20,8 +20,8 @@ use Rattle.engine.specs.Queries.{statusOf, statusBy, statusByWork, curre
 use Rattle.engine.specs.declared.state.Core.{Core}
 use Rattle.engine.specs.declared.state.Mode.{Mode}
 use Rattle.engine.specs.declared.state.Mode.the-variants.{Running}
-use Rattle.engine.specs.declared.state.Rate.{Rate}
-use Rattle.engine.specs.declared.state.Rate.the-variants.{Current}
+use Rattle.dispense.specs.declared.rates.Rate.{Rate}
+use Rattle.dispense.specs.declared.rates.Rate.the-variants.{Current}
 use Rattle.engine.specs.declared.state.Work.{Work}
 
 -- ---- the status by the mode, and while running by the work

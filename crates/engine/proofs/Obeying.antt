@@ -24,7 +24,7 @@ use Rattle.engine.specs.declared.settings.Obeyed.{Obeyed}
 use Rattle.engine.specs.declared.state.Core.{Core}
 use Rattle.engine.specs.declared.state.Mode.{Mode}
 use Rattle.engine.specs.declared.state.Mode.the-variants.{Running}
-use Rattle.engine.specs.declared.state.Rate.{Rate}
+use Rattle.dispense.specs.declared.rates.Rate.{Rate}
 use Rattle.engine.specs.declared.state.Run.{Run}
 use Rattle.engine.specs.declared.state.Work.{Work}
 

@@ -1,41 +1,38 @@
 -- What a sound core and phase tell, and from it what the callees of a tick ask: see Ready in specs/Sound.antt.
 -- Assumes nothing.
-use Prim.Native.Nat.{ℕ, zero, suc, _+_, _≤_}
+use Prim.Native.Nat.{ℕ, _+_, _≤_}
 use mathlib.Core.Path.{_≡_, sym, ap, _∙_}
 use mathlib.Core.Bool.{true, _&&_}
-use mathlib.Core.List.{List}
 use native.Mathlib.Omega.{arith}
-use lib.Dec.{ltb, leb, eqb}
-use lib.ListN.{getD}
-use borrow.Author.Tests.{leb-true, ltb-true, eqb-true}
+use lib.Dec.{leb}
+use borrow.Author.Tests.{leb-true}
 use Rattle.base.proofs.Choices.{and-left, and-right}
 use Rattle.decimal.specs.Writable.{writable}
 use Rattle.decimal.proofs.Grid.{writable-grid}
-use Rattle.drive.specs.Rates.{hourly, mostRate}
-use Rattle.drive.specs.Syringe.{diameter, leastDiameter, mostDiameter, threshold}
+use Rattle.drive.specs.Rates.{mostRate}
+use Rattle.drive.specs.Syringe.{diameter, leastDiameter, mostDiameter}
 use Rattle.drive.specs.declared.rates.RateUnit.{RateUnit}
-use Rattle.drive.proofs.Bounds.{threshold-le}
-use Rattle.drive.proofs.Theorems.{usable-iff}
 use Rattle.program.specs.Functions.{fits}
 use Rattle.program.specs.Phases.{soundPhase}
 use Rattle.program.specs.declared.phases.Direction.{Direction}
 use Rattle.program.specs.declared.phases.Direction.the-variants.{Infuse, Withdraw}
 use Rattle.program.specs.declared.phases.Phase.{Phase}
-use Rattle.engine.specs.Entering.{ratio}
-use Rattle.engine.specs.Loops.{Turning, noLoop, newestOf}
-use Rattle.engine.specs.Sound.{Ready, soundCore, soundRanges, soundRun, soundLoops, soundVisit, soundWork}
-use Rattle.engine.specs.Sound.{rangeTests, runTests, loopTests, visitTests}
-use Rattle.engine.specs.Visits.{Working}
-use Rattle.engine.specs.Working.{AtRate, mostTotal, totalOf}
-use Rattle.engine.specs.declared.loops.Loop.{Loop}
-use Rattle.engine.specs.declared.loops.Loops.{Loops}
+use Rattle.dispense.specs.Rates.{ratio}
+use Rattle.loops.specs.Loops.{Turning, soundLoops}
+use Rattle.engine.specs.Sound.{Ready, soundCore, soundRanges, soundRun, soundWork}
+use Rattle.dispense.specs.Visits.{soundVisit}
+use Rattle.engine.specs.Sound.{rangeTests, runTests}
+use Rattle.engine.specs.Working.{AtRate}
+use Rattle.dispense.specs.Totals.{mostTotal, totalOf}
 use Rattle.engine.specs.declared.state.Core.{Core}
-use Rattle.engine.specs.declared.state.Rate.{Rate}
-use Rattle.engine.specs.declared.state.Rate.the-variants.{Current}
+use Rattle.dispense.specs.declared.rates.Rate.{Rate}
+use Rattle.dispense.specs.declared.rates.Rate.the-variants.{Current}
 use Rattle.engine.specs.declared.state.Run.{Run}
 use Rattle.engine.specs.declared.state.Work.the-variants.{Visiting}
-use Rattle.engine.specs.declared.visits.Visit.{Visit}
-use Rattle.base.proofs.Each.{Each, each, either}
+use Rattle.dispense.specs.declared.visits.Visit.{Visit}
+use Rattle.base.proofs.Each.{Each, each}
+use Rattle.loops.proofs.Bounds.{newest-bounded, count-le}
+use Rattle.dispense.proofs.Visiting.{visit-works}
 
 -- ---- each test of a sound part holds
 pub range-tests : (phases : ℕ) (s : Core) → soundRanges phases s ≡ true → Each (rangeTests phases s)
@@ -45,14 +42,6 @@ range-tests phases s h = each (rangeTests phases s) h
 pub run-tests : (phases : ℕ) (r : Run) → soundRun phases r ≡ true → Each (runTests phases r)
 unfolding soundRun
 run-tests phases r h = each (runTests phases r) h
-
-pub loop-tests : (phases : ℕ) (l : Loops) → soundLoops phases l ≡ true → Each (loopTests phases l)
-unfolding soundLoops
-loop-tests phases l h = each (loopTests phases l) h
-
-pub visit-tests : (d : ℕ) (p : Phase) (rate : Rate) (v : Visit) → soundVisit d p rate v ≡ true → Each (visitTests d p rate v)
-unfolding soundVisit
-visit-tests d p rate v h = each (visitTests d p rate v) h
 
 -- ---- a sound phase
 pub writable-le : (x : ℕ) → writable x ≡ true → x ≤ mostRate
@@ -124,52 +113,6 @@ module _ (phases : ℕ) (s : Core) (h : soundRanges phases s ≡ true) where
 
   pub loops-sound : soundLoops phases (s .run .loops) ≡ true
   loops-sound = run-tests phases (s .run) run-sound .1 .1 .1 .1 .0
-
--- ---- sound loops: the newest, or the one counted as begun by phase 0, is within its ranges
-abbrev pub Bounded : ℕ → Loop → Type 0
-Bounded phases x = (x .begun ≤ phases) × (x .passes ≤ 98)
-
-bounded : (phases : ℕ) (x : Loop) → (leb (x .begun) phases && leb (x .passes) 98) ≡ true → Bounded phases x
-bounded phases x h = (
-  leb-true _ _ (and-left (leb (x .begun) phases) (leb (x .passes) 98) h),
-  leb-true _ _ (and-right (leb (x .begun) phases) (leb (x .passes) 98) h),
-)
-
-by-count :
-    (phases : ℕ) (l : List Loop) (n : ℕ)
-    → Each (loopTests phases (record { slots = l; count = n }))
-    → Bounded phases (newestOf (record { slots = l; count = n }))
-unfolding newestOf
-by-count phases l zero h = (omega arith, omega arith)
-by-count phases l (suc zero) h = bounded phases (getD l 0 noLoop) (h .1 .0)
-by-count phases l (suc (suc zero)) h = bounded phases (getD l 1 noLoop) (h .1 .1 .0)
-by-count phases l (suc (suc (suc zero))) h = bounded phases (getD l 2 noLoop) (h .1 .1 .1 .0)
-by-count phases l (suc (suc (suc (suc n)))) h = absurd (omega (arith, leb-true (suc (suc (suc (suc n)))) 3 (h .0)))
-
-pub count-le : (phases : ℕ) (l : Loops) → soundLoops phases l ≡ true → l .count ≤ 3
-count-le phases l h = leb-true _ _ (loop-tests phases l h .0)
-
-pub newest-bounded : (phases : ℕ) (l : Loops) → soundLoops phases l ≡ true → Bounded phases (newestOf l)
-newest-bounded phases l h = by-count phases (l .slots) (l .count) (loop-tests phases l h)
-
--- ---- a sound visit at its rate
-pub visit-works :
-    (d : ℕ) (p : Phase) (r : ℕ) (unit : RateUnit) (v : Visit)
-    → d ≤ mostDiameter
-    → soundVisit d p (Current r unit) v ≡ true
-    → Working v (hourly r unit) (threshold d)
-visit-works d p r unit v hd h =
-    let t = visit-tests d p (Current r unit) v h in
-    record {
-      store-below = ltb-true (v .store) (threshold d) (t .0);
-      usable = usable-iff d r unit .0 (t .1 .1 .1 .0) .1;
-      within =
-          either (ltb (v .given) (v .target)) (eqb (v .target) 0 && eqb (v .given) 0)
-          (λ e. omega (arith, ltb-true (v .given) (v .target) e))
-          (λ e. omega (arith, eqb-true (v .given) 0 (and-right (eqb (v .target) 0) (eqb (v .given) 0) e)))
-          (t .1 .1 .0);
-      bounded = threshold-le d hd;
-    }
 
 -- ---- a core that is sound with the current phase in hand
 module _ (phases : ℕ) (s : Core) (p : Phase) (h : soundCore phases s p ≡ true) where

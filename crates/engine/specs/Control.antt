@@ -1,6 +1,6 @@
 -- RUN, STP and CLD; what power-up and *RESET make of the core.   (01, Commands)
 use Prim.Native.Nat.{ℕ}
-use mathlib.Core.Bool.{Bool, true, false}
+use mathlib.Core.Bool.{true, false}
 use Rattle.base.specs.If.{if_then_else_}
 use Rattle.answer.specs.declared.replies.Reply.the-variants as reply
 use Rattle.answer.specs.declared.statuses.Alarm.the-variants.{PowerUp}
@@ -17,7 +17,7 @@ use Rattle.engine.specs.declared.state.Core.{Core}
 use Rattle.engine.specs.declared.state.Mode.{Mode}
 use Rattle.engine.specs.declared.state.Mode.the-variants.{Stopped, Paused, Running}
 use Rattle.engine.specs.declared.state.Pending.the-variants.{NoAlarm, Raised}
-use Rattle.engine.specs.declared.state.Totals.{Totals}
+use Rattle.dispense.specs.declared.totals.Totals.{Totals}
 use Rattle.engine.specs.declared.state.Work.{Work}
 use Rattle.engine.specs.declared.state.Work.the-variants.{Entering, Visiting, Pausing, Waiting}
 

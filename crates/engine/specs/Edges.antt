@@ -1,5 +1,5 @@
 -- One level of a pin.   (01, Ticks and phases: "Pin 4 falling ..", "Pin 2 falling ..")
-use mathlib.Core.Bool.{Bool, true, false, _&&_, not}
+use mathlib.Core.Bool.{Bool, _&&_, not}
 use Rattle.base.specs.If.{if_then_else_}
 use Rattle.engine.specs.Entering.{fired}
 use Rattle.engine.specs.Runs.{started, paused, resumed, toNext}

@@ -1,35 +1,20 @@
 -- Entering a phase, function by function.   (01, Ticks and phases)
-use Prim.Native.Nat.{ℕ, _+_, _-_}
-use mathlib.Core.Bool.{Bool, true, false, _&&_}
+use Prim.Native.Nat.{ℕ}
+use mathlib.Core.Bool.{Bool, _&&_}
 use lib.Dec.{ltb, leb, eqb}
 use Rattle.base.specs.If.{if_then_else_}
 use Rattle.answer.specs.declared.statuses.Alarm.the-variants.{Program}
-use Rattle.drive.specs.Rates.{usable, mostRate}
+use Rattle.drive.specs.Rates.{usable}
 use Rattle.drive.specs.Syringe.{target}
 use Rattle.program.specs.declared.phases.Phase.{Phase}
-use Rattle.engine.specs.Loops.{noLoops, placeOf, openedAt, lopOf, lpeOf}
+use Rattle.loops.specs.Loops.{noLoops, placeOf, openedAt, lopOf, lpeOf}
 use Rattle.engine.specs.Runs.{withRate, withLoops, withTrap, withRun, alarmed, placed, toPhase, toNext}
-use Rattle.engine.specs.declared.loops.Turn.{Turn}
+use Rattle.loops.specs.declared.Turn.{Turn}
 use Rattle.engine.specs.declared.state.Core.{Core}
-use Rattle.engine.specs.declared.state.Rate.{Rate}
-use Rattle.engine.specs.declared.state.Rate.the-variants.{NoRate, Current}
+use Rattle.dispense.specs.declared.rates.Rate.{Rate}
+use Rattle.dispense.specs.declared.rates.Rate.the-variants.{NoRate, Current}
 use Rattle.engine.specs.declared.state.Trap.the-variants.{NoTrap, Armed}
 use Rattle.engine.specs.declared.state.Work.the-variants.{Visiting, Pausing, Waiting}
-
--- the thousandths of a current rate, 0 where there is none
-abbrev pub ratio : Rate → ℕ
-ratio NoRate = 0
-ratio (Current r unit) = r
-
--- INC and DEC: the stored thousandths added to the current rate or taken from it, in its units; none current, or a result over
--- 9,999.000, is no rate; below 0 it is 0, which is not usable
-abbrev pub raised : Rate → ℕ → Rate
-raised NoRate x = NoRate
-raised (Current r unit) x = if leb (r + x) mostRate then Current (r + x) unit else NoRate
-
-abbrev pub lowered : Rate → ℕ → Rate
-lowered NoRate x = NoRate
-lowered (Current r unit) x = Current (r - x) unit
 
 -- time store 0, the step target from the volume; a volume above 0 with target 0 ends at entry
 unfoldable pub begunVisit : Core → Phase → Core

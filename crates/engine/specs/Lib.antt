@@ -1,7 +1,5 @@
 -- The core of a pump's state, and what a tick, an edge and a command do to it.
 pub mod Runs
-pub mod Visits
-pub mod Loops
 pub mod Entering
 pub mod Working
 pub mod Ticks

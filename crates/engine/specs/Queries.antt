@@ -18,8 +18,8 @@ use Rattle.program.specs.declared.phases.Phase.{Phase}
 use Rattle.engine.specs.declared.state.Core.{Core}
 use Rattle.engine.specs.declared.state.Mode.{Mode}
 use Rattle.engine.specs.declared.state.Mode.the-variants.{Stopped, Paused, Running}
-use Rattle.engine.specs.declared.state.Rate.{Rate}
-use Rattle.engine.specs.declared.state.Rate.the-variants.{NoRate, Current}
+use Rattle.dispense.specs.declared.rates.Rate.{Rate}
+use Rattle.dispense.specs.declared.rates.Rate.the-variants.{NoRate, Current}
 use Rattle.engine.specs.declared.state.Work.{Work}
 use Rattle.engine.specs.declared.state.Work.the-variants.{Entering, Visiting, Pausing, Waiting}
 
@@ -31,6 +31,10 @@ runs Running = true
 
 abbrev pub operating : Core → Bool
 operating s = runs (s .run .mode)
+
+-- the number of the phase that a command concerns: the running one while operating, else the one chosen by PHN
+abbrev pub inHand : Core → ℕ
+inHand s = if operating s then s .run .place .current else s .chosen
 
 -- ---- the status
 abbrev pub pumpingOf : Direction → Status

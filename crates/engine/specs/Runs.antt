@@ -3,8 +3,8 @@
 use Prim.Native.Nat.{ℕ, _+_}
 use mathlib.Core.Bool.{false}
 use Rattle.answer.specs.declared.statuses.Alarm.{Alarm}
-use Rattle.engine.specs.Loops.{noLoops}
-use Rattle.engine.specs.declared.loops.Loops.{Loops}
+use Rattle.loops.specs.Loops.{noLoops}
+use Rattle.loops.specs.declared.Loops.{Loops}
 use Rattle.engine.specs.declared.state.Core.{Core}
 use Rattle.engine.specs.declared.state.Mode.{Mode}
 use Rattle.engine.specs.declared.state.Mode.the-variants.{Stopped, Paused, Running}
@@ -12,8 +12,8 @@ use Rattle.engine.specs.declared.state.Moved.{Moved}
 use Rattle.engine.specs.declared.state.Pending.{Pending}
 use Rattle.engine.specs.declared.state.Pending.the-variants.{NoAlarm, Raised}
 use Rattle.engine.specs.declared.state.Place.{Place}
-use Rattle.engine.specs.declared.state.Rate.{Rate}
-use Rattle.engine.specs.declared.state.Rate.the-variants.{NoRate}
+use Rattle.dispense.specs.declared.rates.Rate.{Rate}
+use Rattle.dispense.specs.declared.rates.Rate.the-variants.{NoRate}
 use Rattle.engine.specs.declared.state.Run.{Run}
 use Rattle.engine.specs.declared.state.Trap.{Trap}
 use Rattle.engine.specs.declared.state.Trap.the-variants.{NoTrap}

@@ -2,81 +2,39 @@
 -- "At most one of visit, timed pause and trigger wait" and "the store is 0 outside a visit" hold by the type of Work.   (01, Calls)
 use Prim.Native.Nat.{ℕ, _+_, _≤_}
 use mathlib.Core.Path.{_≡_}
-use mathlib.Core.Bool.{Bool, true, false, _&&_, _||_, not}
+use mathlib.Core.Bool.{Bool, true, false, _&&_}
 use mathlib.Core.List.{List, [], _∷_}
-use lib.Dec.{ltb, leb, eqb}
+use lib.Dec.{leb, eqb}
 use Rattle.base.specs.All.{all}
 use Rattle.decimal.specs.Writable.{writable}
-use Rattle.drive.specs.Rates.{usable, mostRate}
-use Rattle.drive.specs.Syringe.{diameter, threshold, target}
-use Rattle.program.specs.Functions.{isPhase, pauseTicks, pumps}
+use Rattle.drive.specs.Rates.{mostRate}
+use Rattle.drive.specs.Syringe.{diameter}
+use Rattle.program.specs.Functions.{isPhase, pauseTicks}
 use Rattle.program.specs.Phases.{soundPhase}
 use Rattle.program.specs.declared.functions.Function.{Function}
 use Rattle.program.specs.declared.functions.Function.the-variants as f
 use Rattle.program.specs.declared.phases.Phase.{Phase}
-use Rattle.engine.specs.Entering.{ratio}
-use Rattle.engine.specs.Loops.{slot}
-use Rattle.engine.specs.Working.{mostTotal}
-use Rattle.engine.specs.declared.loops.Loops.{Loops}
+use Rattle.dispense.specs.Rates.{ratio, isNoRate}
+use Rattle.loops.specs.Loops.{soundLoops}
+use Rattle.dispense.specs.Totals.{mostTotal}
 use Rattle.engine.specs.declared.state.Core.{Core}
 use Rattle.engine.specs.declared.state.Mode.{Mode}
 use Rattle.engine.specs.declared.state.Mode.the-variants.{Stopped, Paused, Running}
 use Rattle.engine.specs.declared.state.Pending.{Pending}
 use Rattle.engine.specs.declared.state.Pending.the-variants.{NoAlarm, Raised}
-use Rattle.engine.specs.declared.state.Rate.{Rate}
-use Rattle.engine.specs.declared.state.Rate.the-variants.{NoRate, Current}
+use Rattle.dispense.specs.declared.rates.Rate.{Rate}
 use Rattle.engine.specs.declared.state.Run.{Run}
-use Rattle.engine.specs.declared.state.Totals.{Totals}
 use Rattle.engine.specs.declared.state.Trap.{Trap}
 use Rattle.engine.specs.declared.state.Trap.the-variants.{NoTrap, Armed}
 use Rattle.engine.specs.declared.state.Work.{Work}
 use Rattle.engine.specs.declared.state.Work.the-variants.{Entering, Visiting, Pausing, Waiting}
-use Rattle.engine.specs.declared.visits.Visit.{Visit}
+use Rattle.dispense.specs.Visits.{soundVisit}
 
 -- ---- every field is in its range
 -- a trap jumps to a phase
 abbrev pub soundTrap : ℕ → Trap → Bool
 soundTrap phases NoTrap = true
 soundTrap phases (Armed n) = isPhase phases n
-
--- ---- open loops are at most three, each begun by phase 0 or a phase and with at most 98 passes, and begun by different phases
-abbrev pub soundSlot : ℕ → Loops → ℕ → Bool
-soundSlot phases l i = leb (l .count) i || leb (slot l i .begun) phases && leb (slot l i .passes) 98
-
-abbrev pub apart : Loops → ℕ → ℕ → Bool
-apart l i j = leb (l .count) j || not (eqb (slot l i .begun) (slot l j .begun))
-
-abbrev pub loopTests : ℕ → Loops → List Bool
-loopTests phases l =
-    leb (l .count) 3
-    ∷ soundSlot phases l 0
-    ∷ soundSlot phases l 1
-    ∷ soundSlot phases l 2
-    ∷ apart l 0 1
-    ∷ apart l 0 2
-    ∷ apart l 1 2
-    ∷ []
-
-unfoldable pub soundLoops : ℕ → Loops → Bool
-soundLoops phases l = all (loopTests phases l)
-
--- ---- a visit: the store below the threshold, the target that phase, volume and diameter give, the steps given below it (a continuous
--- visit has no target and counts none), a usable rate, in a RAT, INC or DEC phase
-abbrev pub usableRate : ℕ → Rate → Bool
-usableRate d NoRate = false
-usableRate d (Current r unit) = usable d r unit
-
-abbrev pub visitTests : ℕ → Phase → Rate → Visit → List Bool
-visitTests d p rate v =
-    ltb (v .store) (threshold d)
-    ∷ eqb (v .target) (target d (p .volume))
-    ∷ (ltb (v .given) (v .target) || eqb (v .target) 0 && eqb (v .given) 0)
-    ∷ usableRate d rate
-    ∷ pumps (p .function)
-    ∷ []
-
-unfoldable pub soundVisit : ℕ → Phase → Rate → Visit → Bool
-soundVisit d p rate v = all (visitTests d p rate v)
 
 -- ---- a timed pause stands in a PAS phase above 0 with 1 to its full number of ticks left; a trigger wait in PAS 0
 abbrev pub waits : Function → Bool
@@ -112,10 +70,6 @@ isEntering Waiting = false
 abbrev pub isNoTrap : Trap → Bool
 isNoTrap NoTrap = true
 isNoTrap (Armed n) = false
-
-abbrev pub isNoRate : Rate → Bool
-isNoRate NoRate = true
-isNoRate (Current r unit) = false
 
 abbrev pub isNoAlarm : Pending → Bool
 isNoAlarm NoAlarm = true

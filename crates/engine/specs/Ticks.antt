@@ -4,7 +4,8 @@ use Rattle.program.specs.Functions.{pauseTicks}
 use Rattle.program.specs.declared.functions.Function.{Function}
 use Rattle.program.specs.declared.functions.Function.the-variants as f
 use Rattle.program.specs.declared.phases.Phase.{Phase}
-use Rattle.engine.specs.Entering.{raised, lowered, enterRate, enterPause, startLoop, passLoop, endLoop, jumpIf, armTrap, clearTrap}
+use Rattle.engine.specs.Entering.{enterRate, enterPause, startLoop, passLoop, endLoop, jumpIf, armTrap, clearTrap}
+use Rattle.dispense.specs.Rates.{raised, lowered}
 use Rattle.engine.specs.Entering.{setOutput}
 use Rattle.engine.specs.Runs.{silent, stopped, toPhase, toNext}
 use Rattle.engine.specs.Working.{workVisit, workPause}
@@ -12,7 +13,7 @@ use Rattle.engine.specs.declared.state.Core.{Core}
 use Rattle.engine.specs.declared.state.Mode.{Mode}
 use Rattle.engine.specs.declared.state.Mode.the-variants.{Stopped, Paused, Running}
 use Rattle.engine.specs.declared.state.Moved.{Moved}
-use Rattle.engine.specs.declared.state.Rate.the-variants.{Current}
+use Rattle.dispense.specs.declared.rates.Rate.the-variants.{Current}
 use Rattle.engine.specs.declared.state.Work.{Work}
 use Rattle.engine.specs.declared.state.Work.the-variants.{Entering, Visiting, Pausing, Waiting}
 

@@ -1,7 +1,7 @@
 -- Working an entered phase: a tick of a visit, a tick of a timed pause.   (01, Ticks and phases, RAT and PAS; Volumes)
 use Prim.Native.Nat.{ℕ, _+_, _-_, _*_, _≤_}
 use mathlib.Core.Path.{_≡_}
-use mathlib.Core.Bool.{Bool, true, false}
+use mathlib.Core.Bool.{false}
 use lib.Dec.{leb}
 use Rattle.base.specs.If.{if_then_else_}
 use Rattle.answer.specs.declared.statuses.Alarm.the-variants.{Program}
@@ -10,28 +10,17 @@ use Rattle.drive.specs.Syringe.{mostDiameter, stepVolume, threshold}
 use Rattle.program.specs.declared.phases.Direction.{Direction}
 use Rattle.program.specs.declared.phases.Direction.the-variants.{Infuse, Withdraw}
 use Rattle.program.specs.declared.phases.Phase.{Phase}
-use Rattle.engine.specs.Entering.{ratio}
+use Rattle.dispense.specs.Rates.{ratio}
 use Rattle.engine.specs.Runs.{silent, alarmed, placed, toNext}
-use Rattle.engine.specs.Visits.{Working, stepsOf, workedOf, doneOf}
+use Rattle.dispense.specs.Visits.{Working, stepsOf, workedOf, doneOf}
 use Rattle.engine.specs.declared.state.Core.{Core}
 use Rattle.engine.specs.declared.state.Moved.{Moved}
-use Rattle.engine.specs.declared.state.Rate.{Rate}
-use Rattle.engine.specs.declared.state.Rate.the-variants.{NoRate, Current}
-use Rattle.engine.specs.declared.state.Totals.{Totals}
+use Rattle.dispense.specs.declared.rates.Rate.{Rate}
+use Rattle.dispense.specs.declared.rates.Rate.the-variants.{NoRate, Current}
+use Rattle.dispense.specs.declared.totals.Totals.{Totals}
 use Rattle.engine.specs.declared.state.Work.the-variants.{Visiting, Pausing}
-use Rattle.engine.specs.declared.visits.Visit.{Visit}
-
--- each direction has a total, at most 10^18 fl
-abbrev pub mostTotal : ℕ
-mostTotal = 1_000_000_000_000_000_000
-
-abbrev pub totalOf : Totals → Direction → ℕ
-totalOf t Infuse = t .infused
-totalOf t Withdraw = t .withdrawn
-
-abbrev pub booked : Totals → Direction → ℕ → Totals
-booked t Infuse fl = record { infused = t .infused + fl; withdrawn = t .withdrawn }
-booked t Withdraw fl = record { infused = t .infused; withdrawn = t .withdrawn + fl }
+use Rattle.dispense.specs.declared.visits.Visit.{Visit}
+use Rattle.dispense.specs.Totals.{mostTotal, totalOf, booked}
 
 abbrev pub withTotals : Core → Totals → Core
 withTotals s t = record { totals = t; run = s .run; diameter = s .diameter; pins = s .pins; chosen = s .chosen }

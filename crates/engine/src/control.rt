@@ -8,10 +8,10 @@ use crate::state::Mode;
 use crate::state::Pending;
 use crate::state::Pins;
 use crate::state::Run;
-use crate::state::Totals;
 use crate::state::Work;
 use answer::Alarm;
 use answer::Reply;
+use dispense::Totals;
 use program::Direction;
 use program::Phase;
 

@@ -1,51 +1,17 @@
 // Entering a phase, function by function. Entering does no work: a visit's first step comes with a later tick.
 ghost use mathlib.Core.Path.{_≡_};
 ghost use Prim.Native.Nat.{_≤_};
-ghost use Rattle.drive.specs.Rates.{mostRate};
-ghost use Rattle.engine.specs.Entering.{ratio, raised, lowered, begunVisit, enterRate, enterPause, startLoop, passLoop, endLoop, jumpIf, fired, armTrap, clearTrap, setOutput};
-ghost use Rattle.engine.specs.Loops.{Turning};
-use crate::loops::Loop;
-use crate::loops::Loops;
+ghost use Rattle.engine.specs.Entering.{begunVisit, enterRate, enterPause, startLoop, passLoop, endLoop, jumpIf, fired, armTrap, clearTrap, setOutput};
+ghost use Rattle.loops.specs.Loops.{Turning};
 use crate::state::Core;
-use crate::state::Rate;
 use crate::state::Trap;
 use crate::state::Work;
-use crate::visits::Visit;
 use answer::Alarm;
+use dispense::Rate;
+use dispense::Visit;
+use loops::Loop;
+use loops::Loops;
 use program::Phase;
-
-impl Rate {
-    // INC: a sum over 9,999.000 is no rate.
-    pub fn raised_by(self, x: u32) -> Rate
-        requires { ⌜ (ratio self ≤ mostRate) × (x ≤ mostRate) ⌝ }
-        ensures { λ r. ⌜ r ≡ raised self x ⌝ }
-    {
-        match self {
-            Rate::NoRate => Rate::NoRate,
-            Rate::Current(r, unit) => {
-                if r + x <= decimal::MOST {
-                    return Rate::Current(r + x, unit);
-                }
-                Rate::NoRate
-            }
-        }
-    }
-
-    // DEC: what would fall below 0 is 0, which is not usable.
-    pub fn lowered_by(self, x: u32) -> Rate
-        ensures { λ r. ⌜ r ≡ lowered self x ⌝ }
-    {
-        match self {
-            Rate::NoRate => Rate::NoRate,
-            Rate::Current(r, unit) => {
-                if r < x {
-                    return Rate::Current(0, unit);
-                }
-                Rate::Current(r - x, unit)
-            }
-        }
-    }
-}
 
 impl Core {
     // RAT, INC and DEC, with the rate that is to be the current one.

@@ -3,8 +3,6 @@
 // array of phases, and knows no byte of an answer: past the last phase its caller hands it a phase that stops.
 //
 //   state       the core: totals, the program under way, diameter, pins, chosen phase
-//   visits      a rate visit: due steps, target, time store
-//   loops       the open loops: LPS, LOP, LPE
 //   runs        the program under way: starting, stopping, pausing, moving on
 //   entering    entering a phase, function by function
 //   working     working an entered phase: visit, timed pause
@@ -18,18 +16,14 @@ mod commands;
 mod control;
 mod edges;
 mod entering;
-mod loops;
 mod queries;
 mod runs;
 mod settings;
 mod sound;
 mod state;
 mod ticks;
-mod visits;
 mod working;
 
-pub use loops::Loop;
-pub use loops::Loops;
 pub use settings::Obeyed;
 pub use state::Core;
 pub use state::Mode;
@@ -37,9 +31,6 @@ pub use state::Moved;
 pub use state::Pending;
 pub use state::Pins;
 pub use state::Place;
-pub use state::Rate;
 pub use state::Run;
-pub use state::Totals;
 pub use state::Trap;
 pub use state::Work;
-pub use visits::Visit;

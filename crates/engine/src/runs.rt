@@ -2,17 +2,17 @@
 ghost use mathlib.Core.Path.{_≡_};
 ghost use Prim.Native.Nat.{_≤_};
 ghost use Rattle.engine.specs.Runs.{at, withRate, withLoops, withTrap, withMode, freshAt, withRun, placed, toPhase, toNext, started, stopped, alarmed, paused, resumed, silent};
-use crate::loops::Loops;
 use crate::state::Core;
 use crate::state::Mode;
 use crate::state::Moved;
 use crate::state::Pending;
 use crate::state::Place;
-use crate::state::Rate;
 use crate::state::Run;
 use crate::state::Trap;
 use crate::state::Work;
 use answer::Alarm;
+use dispense::Rate;
+use loops::Loops;
 
 impl Run {
     pub fn at(mut self, place: Place) -> Run

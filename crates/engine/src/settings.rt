@@ -5,9 +5,9 @@ ghost use Rattle.engine.specs.Settings.{answered, settled, accepted, set
 ghost use Rattle.engine.specs.Settings.{setVolume, setDirection, setPhase, setFunction, isFlow, isRamp, isVisiting, unitsOwn, unitOr};
 use crate::state::Core;
 use crate::state::Mode;
-use crate::state::Rate;
 use crate::state::Work;
 use answer::Reply;
+use dispense::Rate;
 use drive::RateUnit;
 use line::Units;
 use program::Direction;

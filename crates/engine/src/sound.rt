@@ -1,19 +1,16 @@
 // Whether a core is sound, with its current phase in hand. Bool results are joined by `&` and `|`, so that each clause is a value.
 ghost use mathlib.Core.Path.{_≡_};
 ghost use Prim.Native.Nat.{_≤_};
-ghost use Rattle.engine.specs.Sound.{soundTrap, soundSlot, soundLoops, usableRate, soundVisit, waits, soundWork};
-ghost use Rattle.engine.specs.Sound.{isEntering, isNoTrap, isNoRate, isNoAlarm, soundMode, soundRun, soundRanges, soundCore};
-ghost use Rattle.engine.specs.Entering.{ratio};
-use crate::loops::Loops;
+ghost use Rattle.engine.specs.Sound.{soundTrap, waits, soundWork};
+ghost use Rattle.engine.specs.Sound.{isEntering, isNoTrap, isNoAlarm, soundMode, soundRun, soundRanges, soundCore};
 use crate::state::Core;
 use crate::state::Mode;
 use crate::state::Pending;
-use crate::state::Rate;
 use crate::state::Run;
 use crate::state::Trap;
 use crate::state::Work;
-use crate::visits::Visit;
-use crate::working::MOST_TOTAL;
+use dispense::MOST_TOTAL;
+use dispense::Rate;
 use program::Function;
 use program::Phase;
 
@@ -111,50 +108,6 @@ impl Work {
     }
 }
 
-impl Visit {
-    fn sound(self, d: u16, here: Phase, rate: Rate) -> bool
-        ensures { λ r. ⌜ r ≡ soundVisit d here rate self ⌝ }
-    {
-        let function = here.function;
-        let threshold = drive::step_threshold(d);
-        let target = drive::step_target(d, here.volume);
-        (self.store < threshold)
-            & (self.target == target)
-            & ((self.given < self.target) | (self.target == 0) & (self.given == 0))
-            & rate.usable(d)
-            & function.pumps()
-    }
-}
-
-impl Rate {
-    fn thousandths(self) -> u32
-        ensures { λ r. ⌜ r ≡ ratio self ⌝ }
-    {
-        match self {
-            Rate::NoRate => 0,
-            Rate::Current(r, _) => r,
-        }
-    }
-
-    fn is_none(self) -> bool
-        ensures { λ r. ⌜ r ≡ isNoRate self ⌝ }
-    {
-        match self {
-            Rate::NoRate => true,
-            Rate::Current(_, _) => false,
-        }
-    }
-
-    fn usable(self, d: u16) -> bool
-        ensures { λ r. ⌜ r ≡ usableRate d self ⌝ }
-    {
-        match self {
-            Rate::NoRate => false,
-            Rate::Current(r, unit) => drive::is_usable(d, r, unit),
-        }
-    }
-}
-
 impl Trap {
     fn sound(self, phases: u8) -> bool
         ensures { λ r. ⌜ r ≡ soundTrap phases self ⌝ }
@@ -183,25 +136,6 @@ impl Pending {
             Pending::NoAlarm => true,
             Pending::Raised(_) => false,
         }
-    }
-}
-
-impl Loops {
-    // The places where no loop is open are asked nothing.
-    fn sound(self, phases: u8) -> bool
-        ensures { λ r. ⌜ r ≡ soundLoops phases self ⌝ }
-    {
-        let a = self.slots[0];
-        let b = self.slots[1];
-        let c = self.slots[2];
-        let count = self.count;
-        (count <= 3)
-            & ((count <= 0) | (a.begun <= phases) & (a.passes <= 98))
-            & ((count <= 1) | (b.begun <= phases) & (b.passes <= 98))
-            & ((count <= 2) | (c.begun <= phases) & (c.passes <= 98))
-            & ((count <= 1) | !(a.begun == b.begun))
-            & ((count <= 2) | !(a.begun == c.begun))
-            & ((count <= 2) | !(b.begun == c.begun))
     }
 }
 

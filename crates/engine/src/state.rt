@@ -1,8 +1,9 @@
 // The core of the state: small structs, nested, so that a rule alters one part and carries the rest whole.
-use crate::loops::Loops;
-use crate::visits::Visit;
 use answer::Alarm;
-use drive::RateUnit;
+use dispense::Rate;
+use dispense::Totals;
+use dispense::Visit;
+use loops::Loops;
 
 // What the current phase is doing: it is entered where a visit, a timed pause (with its ticks left) or a trigger wait is under way.
 pub enum Work {
@@ -16,12 +17,6 @@ pub enum Work {
 pub struct Place {
     pub work: Work,
     pub current: u8,
-}
-
-// The current rate, in thousandths of its units.
-pub enum Rate {
-    NoRate,
-    Current(u32, RateUnit),
 }
 
 // The phase that a set trap jumps to.
@@ -57,12 +52,6 @@ pub struct Pins {
     pub four: bool,
     pub six: bool,
     pub output: bool,
-}
-
-// What was given in each direction since it was last cleared, in fl.
-pub struct Totals {
-    pub infused: u64,
-    pub withdrawn: u64,
 }
 
 pub struct Core {

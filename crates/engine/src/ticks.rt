@@ -5,8 +5,8 @@ ghost use Rattle.engine.specs.Sound.{Ready};
 use crate::state::Core;
 use crate::state::Mode;
 use crate::state::Moved;
-use crate::state::Rate;
 use crate::state::Work;
+use dispense::Rate;
 use program::Function;
 use program::Phase;
 

@@ -2,49 +2,17 @@
 ghost use mathlib.Core.Path.{_≡_};
 ghost use Prim.Native.Nat.{_≤_};
 ghost use Rattle.drive.specs.Syringe.{mostDiameter, threshold};
-ghost use Rattle.engine.specs.Working.{mostTotal, totalOf, booked, doseOf, afterVisit, Giving, afterDose, given, giveSteps, AtRate, workVisit, workPause};
-ghost use Rattle.engine.specs.Visits.{Working};
+ghost use Rattle.engine.specs.Working.{doseOf, afterVisit, Giving, afterDose, given, giveSteps, AtRate, workVisit, workPause};
+ghost use Rattle.dispense.specs.Totals.{booked};
+ghost use Rattle.dispense.specs.Visits.{Working};
 use crate::state::Core;
 use crate::state::Moved;
-use crate::state::Rate;
-use crate::state::Totals;
 use crate::state::Work;
-use crate::visits::Visit;
 use answer::Alarm;
+use dispense::Rate;
+use dispense::Visit;
 use program::Direction;
 use program::Phase;
-
-// A total never passes this: 10^18 fl.
-pub const MOST_TOTAL: u64 = 1_000_000_000_000_000_000;
-
-impl Totals {
-    pub fn total(self, direction: Direction) -> u64
-        ensures { λ r. ⌜ r ≡ totalOf self direction ⌝ }
-    {
-        match direction {
-            Direction::Infuse => self.infused,
-            Direction::Withdraw => self.withdrawn,
-        }
-    }
-
-    pub fn booked(mut self, direction: Direction, fl: u64) -> Totals
-        requires { ⌜ (totalOf self direction ≤ mostTotal) × (fl ≤ mostTotal) ⌝ }
-        ensures { λ r. ⌜ r ≡ booked self direction fl ⌝ }
-    {
-        match direction {
-            Direction::Infuse => {
-                let total = self.infused + fl;
-                self.infused = total;
-                self
-            }
-            Direction::Withdraw => {
-                let total = self.withdrawn + fl;
-                self.withdrawn = total;
-                self
-            }
-        }
-    }
-}
 
 impl Core {
     // The volume of the steps that a working tick of the visit gives.
@@ -114,7 +82,7 @@ impl Core {
     {
         let direction = here.direction;
         let totals = self.totals;
-        if totals.total(direction) + self.dose_of(visit, hourly) <= MOST_TOTAL {
+        if totals.total(direction) + self.dose_of(visit, hourly) <= dispense::MOST_TOTAL {
             return self.give(here, visit, hourly);
         }
         self.alarmed(Alarm::Program).silent()

@@ -12,10 +12,10 @@ use Rattle.program.specs.Phases.{reversed, soundPhase}
 use Rattle.program.specs.declared.functions.Function.{Function}
 use Rattle.program.specs.declared.phases.Phase.{Phase}
 use Rattle.engine.specs.Commands.{obeyBy}
-use Rattle.engine.specs.Queries.{askRate, askVolume, askPhase, askTotals}
+use Rattle.engine.specs.Queries.{inHand, askRate, askVolume, askPhase, askTotals}
 use Rattle.engine.specs.Settings.{answered}
 use Rattle.engine.specs.declared.state.Core.{Core}
-use Rattle.kept.specs.Kept.{Table, Kept, inHand, withPhase}
+use Rattle.kept.specs.Kept.{Table, Kept, withPhase}
 use Rattle.kept.proofs.ControlKept.{run-well, run-from-well, stop-well, clear-well}
 use Rattle.kept.proofs.DirectionsKept.{set-direction-well}
 use Rattle.kept.proofs.Obeying.{Well, answered-well}

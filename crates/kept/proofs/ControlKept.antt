@@ -19,7 +19,7 @@ use Rattle.program.specs.declared.phases.Direction.the-variants.{Infuse, Withdr
 use Rattle.program.specs.declared.phases.Phase.{Phase}
 use Rattle.engine.specs.Control as control
 use Rattle.engine.specs.Control.{runWork, runBy, stopWork, stopBy, cleared, powerUpCore, resetCore}
-use Rattle.engine.specs.Queries.{operating}
+use Rattle.engine.specs.Queries.{inHand, operating}
 use Rattle.engine.specs.Runs.{started}
 use Rattle.engine.specs.Settings.{answered}
 use Rattle.engine.specs.Sound.{soundCore}
@@ -30,7 +30,7 @@ use Rattle.engine.specs.declared.state.Mode.the-variants.{Stopped, Paused, Runn
 use Rattle.engine.specs.declared.state.Pending.the-variants.{NoAlarm, Raised}
 use Rattle.engine.specs.declared.state.Work.{Work}
 use Rattle.engine.specs.declared.state.Work.the-variants.{Entering, Visiting, Pausing, Waiting}
-use Rattle.kept.specs.Kept.{Table, Kept, inHand}
+use Rattle.kept.specs.Kept.{Table, Kept}
 use Rattle.kept.proofs.Obeying.{Well, answered-well}
 use Rattle.kept.proofs.Parts.{Outside, outside-of, under-of, mode-of, work-of, together, stopped-sound}
 use Rattle.kept.proofs.RunsKept.{stopped-kept, started-kept, paused-kept, resumed-kept, wait-ended-kept}

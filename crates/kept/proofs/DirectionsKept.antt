@@ -13,13 +13,13 @@ use Rattle.answer.specs.declared.replies.Reply.the-variants as reply
 use Rattle.program.specs.Functions.{pumps}
 use Rattle.program.specs.declared.phases.Direction.{Direction}
 use Rattle.program.specs.declared.phases.Phase.{Phase}
-use Rattle.engine.specs.Queries.{operating}
+use Rattle.engine.specs.Queries.{inHand, operating}
 use Rattle.engine.specs.Settings as settings
 use Rattle.engine.specs.Settings.{answered, settledBy, settled, accepted, withDirection}
 use Rattle.engine.specs.Sound.{soundCore}
 use Rattle.engine.specs.declared.state.Core.{Core}
 use Rattle.engine.specs.declared.state.Mode.the-variants.{Running}
-use Rattle.kept.specs.Kept.{Table, Kept, inHand, withPhase}
+use Rattle.kept.specs.Kept.{Table, Kept, withPhase}
 use Rattle.kept.proofs.Going.{within, going-of}
 use Rattle.kept.proofs.Obeying.{Well, running-of, answered-well, accepted-well}
 use Rattle.kept.proofs.Parts.{outside-of, under-of, mode-of, work-of, together}

@@ -11,11 +11,11 @@ use Rattle.program.specs.Functions.{fits, pauseTicks, pumps}
 use Rattle.program.specs.declared.functions.Function.{Function}
 use Rattle.program.specs.declared.functions.Function.the-variants as f
 use Rattle.program.specs.declared.phases.Phase.{Phase}
-use Rattle.engine.specs.Entering.{raised, lowered}
+use Rattle.dispense.specs.Rates.{raised, lowered}
 use Rattle.engine.specs.Sound.{waits}
 use Rattle.engine.specs.Ticks.{enterBy, enter}
 use Rattle.engine.specs.declared.state.Core.{Core}
-use Rattle.engine.specs.declared.state.Rate.the-variants.{Current}
+use Rattle.dispense.specs.declared.rates.Rate.the-variants.{Current}
 use Rattle.kept.specs.Kept.{Table, Kept}
 use Rattle.kept.proofs.Going.{Going, kept-next, kept-jump, kept-stopped, within, fits-here, rate-here}
 use Rattle.kept.proofs.JumpsKept.{kept-lps, kept-lop, kept-lpe, kept-if, kept-evn, kept-evr, kept-out}

@@ -14,14 +14,15 @@ use Rattle.program.specs.declared.functions.Function.the-variants as f
 use Rattle.program.specs.declared.phases.Phase.{Phase}
 use Rattle.answer.specs.declared.statuses.Alarm.{Alarm}
 use Rattle.base.proofs.Choices.{and-left, and-right}
-use Rattle.engine.specs.Entering.{ratio}
+use Rattle.dispense.specs.Rates.{ratio}
 use Rattle.engine.specs.Runs.{withRate, withLoops, withTrap, withRun, stopped, alarmed, placed, toPhase, toNext}
-use Rattle.engine.specs.Sound.{soundTrap, soundLoops, soundWork, isNoAlarm, soundCore}
-use Rattle.engine.specs.declared.loops.Loops.{Loops}
+use Rattle.engine.specs.Sound.{soundTrap, soundWork, isNoAlarm, soundCore}
+use Rattle.loops.specs.Loops.{soundLoops}
+use Rattle.loops.specs.declared.Loops.{Loops}
 use Rattle.engine.specs.declared.state.Core.{Core}
 use Rattle.engine.specs.declared.state.Mode.the-variants.{Running}
 use Rattle.engine.specs.declared.state.Pending.the-variants.{NoAlarm, Raised}
-use Rattle.engine.specs.declared.state.Rate.{Rate}
+use Rattle.dispense.specs.declared.rates.Rate.{Rate}
 use Rattle.engine.specs.declared.state.Trap.{Trap}
 use Rattle.engine.specs.declared.state.Work.{Work}
 use Rattle.engine.specs.declared.state.Work.the-variants.{Entering}

@@ -11,11 +11,11 @@ use Rattle.answer.specs.declared.statuses.Alarm.the-variants.{Program}
 use Rattle.program.specs.Functions.{isPhase}
 use Rattle.program.specs.declared.phases.Phase.{Phase}
 use Rattle.engine.specs.Entering.{startLoop, passLoop, endLoop, jumpIf, fired, armTrap, clearTrap, withOutput, setOutput}
-use Rattle.engine.specs.Loops.{noLoops, placeOf, closedTo, openedAt, newestOf, belowNewest, lopOf, lpeOf}
+use Rattle.loops.specs.Loops.{noLoops, placeOf, closedTo, openedAt, newestOf, belowNewest, lopOf, lpeOf}
 use Rattle.engine.specs.Runs.{withLoops, withTrap, withRun, alarmed, toPhase, toNext}
-use Rattle.engine.specs.declared.loops.Loop.{Loop}
-use Rattle.engine.specs.declared.loops.Loops.{Loops}
-use Rattle.engine.specs.declared.loops.Turn.{Turn}
+use Rattle.loops.specs.declared.Loop.{Loop}
+use Rattle.loops.specs.declared.Loops.{Loops}
+use Rattle.loops.specs.declared.Turn.{Turn}
 use Rattle.engine.specs.declared.state.Core.{Core}
 use Rattle.engine.specs.declared.state.Trap.the-variants.{NoTrap, Armed}
 use Rattle.kept.specs.Kept.{Table, Kept}

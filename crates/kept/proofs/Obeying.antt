@@ -12,7 +12,7 @@ use Rattle.base.proofs.Each.{each}
 use Rattle.answer.specs.declared.replies.Reply.{Reply}
 use Rattle.program.specs.Phases.{soundPhase}
 use Rattle.program.specs.declared.phases.Phase.{Phase}
-use Rattle.engine.specs.Queries.{runs, operating}
+use Rattle.engine.specs.Queries.{inHand, runs, operating}
 use Rattle.engine.specs.Settings.{answered, settledBy, settled, accepted}
 use Rattle.engine.specs.Sound.{isEntering, idleTests, soundMode, soundWork, soundCore}
 use Rattle.engine.specs.declared.settings.Obeyed.{Obeyed}
@@ -20,10 +20,10 @@ use Rattle.engine.specs.declared.state.Core.{Core}
 use Rattle.engine.specs.declared.state.Mode.{Mode}
 use Rattle.engine.specs.declared.state.Mode.the-variants.{Stopped, Paused, Running}
 use Rattle.engine.specs.declared.state.Pending.the-variants.{NoAlarm}
-use Rattle.engine.specs.declared.state.Rate.{Rate}
+use Rattle.dispense.specs.declared.rates.Rate.{Rate}
 use Rattle.engine.specs.declared.state.Work.{Work}
 use Rattle.engine.specs.declared.state.Work.the-variants.{Entering, Visiting, Pausing, Waiting}
-use Rattle.kept.specs.Kept.{Table, Kept, inHand, withPhase}
+use Rattle.kept.specs.Kept.{Table, Kept, withPhase}
 use Rattle.kept.proofs.Parts.{Outside, Under, outside-of, under-of, mode-of, together, stopped-sound}
 
 -- the phase in hand stays sound, nothing is set past the last phase, and the core is sound in the table as it then is

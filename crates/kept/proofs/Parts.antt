@@ -12,12 +12,12 @@ use Rattle.decimal.specs.Writable.{writable}
 use Rattle.drive.specs.Rates.{mostRate}
 use Rattle.drive.specs.Syringe.{diameter}
 use Rattle.program.specs.declared.phases.Phase.{Phase}
-use Rattle.engine.specs.Entering.{ratio}
-use Rattle.engine.specs.Loops.{noLoops}
+use Rattle.dispense.specs.Rates.{ratio}
+use Rattle.loops.specs.Loops.{noLoops, soundLoops}
 use Rattle.engine.specs.Runs.{freshAt, withRun}
-use Rattle.engine.specs.Sound.{soundTrap, soundLoops, soundWork, isNoAlarm, soundMode, runTests, soundRun, rangeTests}
+use Rattle.engine.specs.Sound.{soundTrap, soundWork, isNoAlarm, soundMode, runTests, soundRun, rangeTests}
 use Rattle.engine.specs.Sound.{soundRanges, soundCore}
-use Rattle.engine.specs.Working.{mostTotal}
+use Rattle.dispense.specs.Totals.{mostTotal}
 use Rattle.engine.specs.declared.state.Core.{Core}
 use Rattle.engine.specs.declared.state.Mode.{Mode}
 use Rattle.engine.specs.declared.state.Mode.the-variants.{Stopped, Paused, Running}

@@ -14,9 +14,10 @@ use Rattle.program.specs.declared.functions.Function.{Function}
 use Rattle.program.specs.declared.phases.Direction.{Direction}
 use Rattle.program.specs.declared.phases.Phase.{Phase}
 use Rattle.engine.specs.Settings.{withStored, withVolume, withDirection, withFunction}
-use Rattle.engine.specs.Sound.{visitTests, soundVisit, soundWork}
-use Rattle.engine.specs.declared.state.Rate.{Rate}
-use Rattle.engine.specs.declared.state.Rate.the-variants.{Current}
+use Rattle.engine.specs.Sound.{soundWork}
+use Rattle.dispense.specs.Visits.{visitTests, soundVisit}
+use Rattle.dispense.specs.declared.rates.Rate.{Rate}
+use Rattle.dispense.specs.declared.rates.Rate.the-variants.{Current}
 use Rattle.engine.specs.declared.state.Work.{Work}
 use Rattle.engine.specs.declared.state.Work.the-variants.{Entering, Visiting, Pausing, Waiting}
 

@@ -17,14 +17,15 @@ use Rattle.drive.specs.Syringe.{diameter, threshold, target}
 use Rattle.drive.proofs.Bounds.{threshold-ge}
 use Rattle.program.specs.Functions.{pauseTicks, pumps}
 use Rattle.program.specs.declared.phases.Phase.{Phase}
-use Rattle.engine.specs.Entering.{ratio, raised, lowered, begunVisit, enterRate, enterPause}
+use Rattle.engine.specs.Entering.{begunVisit, enterRate, enterPause}
+use Rattle.dispense.specs.Rates.{ratio, raised, lowered, usableRate}
 use Rattle.engine.specs.Runs.{withRate, withRun, alarmed, placed, toNext}
-use Rattle.engine.specs.Sound.{waits, usableRate}
+use Rattle.engine.specs.Sound.{waits}
 use Rattle.engine.specs.declared.state.Core.{Core}
-use Rattle.engine.specs.declared.state.Rate.{Rate}
-use Rattle.engine.specs.declared.state.Rate.the-variants.{NoRate, Current}
+use Rattle.dispense.specs.declared.rates.Rate.{Rate}
+use Rattle.dispense.specs.declared.rates.Rate.the-variants.{NoRate, Current}
 use Rattle.engine.specs.declared.state.Work.the-variants.{Visiting, Pausing, Waiting}
-use Rattle.engine.specs.declared.visits.Visit.{Visit}
+use Rattle.dispense.specs.declared.visits.Visit.{Visit}
 use Rattle.kept.specs.Kept.{Table, Kept}
 use Rattle.kept.proofs.Going.{Going, going-rate, kept-next, kept-alarmed, kept-doing}
 use Rattle.kept.proofs.VisitsKept.{begun-sound}
@@ -61,7 +62,7 @@ module _ (phases : ℕ) (look : ℕ → Phase) (table : Table phases look) where
       → usableRate (s .diameter) (s .run .rate) ≡ true
       → Kept phases look (begunVisit s (look (s .run .place .current)))
   unfolding begunVisit
-  kept-begun s g c k u = go (ltb 0 (p .volume) && eqb (target (s .diameter) (p .volume)) 0)
+  kept-begun s g c k u = go (ltb 0 (p .volume) && eqb (target (s .diameter) (p .volume)) 0) refl
     where
       p : Phase
       p = look (s .run .place .current)
@@ -69,11 +70,14 @@ module _ (phases : ℕ) (look : ℕ → Phase) (table : Table phases look) where
       v : Visit
       v = record { given = 0; target = target (s .diameter) (p .volume); store = 0 }
 
-      go : (t : Bool) → Kept phases look (if t then toNext s else placed s (Visiting v) (s .run .place .current))
-      go true = kept-next phases look table s g c
-      go false =
+      go :
+          (t : Bool)
+          → (ltb 0 (p .volume) && eqb (target (s .diameter) (p .volume)) 0) ≡ t
+          → Kept phases look (if t then toNext s else placed s (Visiting v) (s .run .place .current))
+      go true e = kept-next phases look table s g c
+      go false e =
           kept-doing phases look table s g (Visiting v)
-          (begun-sound (s .diameter) p (s .run .rate) (threshold-above (s .diameter) (g .outside .in-range)) u k)
+          (begun-sound (s .diameter) p (s .run .rate) (threshold-above (s .diameter) (g .outside .in-range)) u k e)
 
 module _ (phases : ℕ) (look : ℕ → Phase) (table : Table phases look) (s : Core) (g : Going phases s) where
   -- RAT, INC, DEC at the rate that is to be the current one

@@ -14,15 +14,15 @@ use Rattle.drive.specs.declared.rates.RateUnit.{RateUnit}
 use Rattle.line.specs.declared.arguments.Units.{Units}
 use Rattle.program.specs.declared.functions.Function.{Function}
 use Rattle.program.specs.declared.phases.Phase.{Phase}
-use Rattle.engine.specs.Queries.{operating}
+use Rattle.engine.specs.Queries.{inHand, operating}
 use Rattle.engine.specs.Runs.{withRate, withRun}
 use Rattle.engine.specs.Settings as settings
 use Rattle.engine.specs.Settings.{answered, accepted, withStored, isFlow, isRamp, isVisiting, unitsOwn, unitOr, retuned}
 use Rattle.engine.specs.declared.state.Core.{Core}
 use Rattle.engine.specs.declared.state.Mode.the-variants.{Running}
-use Rattle.engine.specs.declared.state.Rate.{Rate}
-use Rattle.engine.specs.declared.state.Rate.the-variants.{NoRate, Current}
-use Rattle.kept.specs.Kept.{Table, Kept, inHand}
+use Rattle.dispense.specs.declared.rates.Rate.{Rate}
+use Rattle.dispense.specs.declared.rates.Rate.the-variants.{NoRate, Current}
+use Rattle.kept.specs.Kept.{Table, Kept}
 use Rattle.kept.proofs.Going.{going-of, going-sound, going-rate}
 use Rattle.kept.proofs.Obeying.{Well, running-of, answered-well, accepted-well}
 use Rattle.kept.proofs.Parts.{work-of}

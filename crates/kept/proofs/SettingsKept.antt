@@ -14,11 +14,11 @@ use Rattle.drive.specs.Syringe.{diameter}
 use Rattle.program.specs.Functions.{fits, isPhase, pumps}
 use Rattle.program.specs.declared.functions.Function.{Function}
 use Rattle.program.specs.declared.phases.Phase.{Phase}
-use Rattle.engine.specs.Queries.{operating}
+use Rattle.engine.specs.Queries.{inHand, operating}
 use Rattle.engine.specs.Settings as settings
 use Rattle.engine.specs.Settings.{answered, settled, accepted, withVolume, withFunction, withDiameter, withChosen}
 use Rattle.engine.specs.declared.state.Core.{Core}
-use Rattle.kept.specs.Kept.{Table, Kept, inHand}
+use Rattle.kept.specs.Kept.{Table, Kept}
 use Rattle.kept.proofs.Obeying.{Well, answered-well, settled-sound, accepted-well}
 use Rattle.kept.proofs.Parts.{Outside, outside-of, under-of, mode-of, work-of, together}
 use Rattle.kept.proofs.PhasesSet.{volume-sound, function-sound}

@@ -17,17 +17,18 @@ use Rattle.program.specs.declared.phases.Direction.{Direction}
 use Rattle.program.specs.declared.phases.Direction.the-variants.{Infuse, Withdraw}
 use Rattle.program.specs.declared.phases.Phase.{Phase}
 use Rattle.engine.specs.Runs.{alarmed, placed, toNext, silent}
-use Rattle.engine.specs.Sound.{visitTests, soundVisit, soundWork}
-use Rattle.engine.specs.Visits.{workedOf, doneOf}
-use Rattle.engine.specs.Working.{mostTotal, totalOf, booked, withTotals, doseOf, afterVisit, afterDose, stepping, given}
+use Rattle.engine.specs.Sound.{soundWork}
+use Rattle.dispense.specs.Visits.{visitTests, soundVisit, workedOf, doneOf}
+use Rattle.engine.specs.Working.{withTotals, doseOf, afterVisit, afterDose, stepping, given}
+use Rattle.dispense.specs.Totals.{mostTotal, totalOf, booked}
 use Rattle.engine.specs.Working.{giveSteps, workVisit, workPause}
 use Rattle.engine.specs.declared.state.Core.{Core}
 use Rattle.engine.specs.declared.state.Moved.{Moved}
-use Rattle.engine.specs.declared.state.Rate.{Rate}
-use Rattle.engine.specs.declared.state.Rate.the-variants.{NoRate, Current}
-use Rattle.engine.specs.declared.state.Totals.{Totals}
+use Rattle.dispense.specs.declared.rates.Rate.{Rate}
+use Rattle.dispense.specs.declared.rates.Rate.the-variants.{NoRate, Current}
+use Rattle.dispense.specs.declared.totals.Totals.{Totals}
 use Rattle.engine.specs.declared.state.Work.the-variants.{Visiting, Pausing}
-use Rattle.engine.specs.declared.visits.Visit.{Visit}
+use Rattle.dispense.specs.declared.visits.Visit.{Visit}
 use Rattle.kept.specs.Kept.{Table, Kept}
 use Rattle.kept.proofs.Going.{Going, kept-next, kept-alarmed, kept-doing, within}
 use Rattle.kept.proofs.RatesKept.{threshold-above}

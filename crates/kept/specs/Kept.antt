@@ -7,7 +7,6 @@ use Rattle.base.specs.If.{if_then_else_}
 use Rattle.program.specs.Phases.{soundPhase}
 use Rattle.program.specs.declared.functions.Function.the-variants as f
 use Rattle.program.specs.declared.phases.Phase.{Phase}
-use Rattle.engine.specs.Queries.{operating}
 use Rattle.engine.specs.Sound.{soundCore}
 use Rattle.engine.specs.declared.state.Core.{Core}
 
@@ -20,10 +19,6 @@ pub record Table (phases : ℕ) (look : ℕ → Phase) : Type 0 where
 -- sound, with the current phase looked up
 abbrev pub Kept : ℕ → (ℕ → Phase) → Core → Type 0
 Kept phases look s = soundCore phases s (look (s .run .place .current)) ≡ true
-
--- the number of the phase in hand: the running one while operating, else the chosen one
-abbrev pub inHand : Core → ℕ
-inHand s = if operating s then s .run .place .current else s .chosen
 
 -- the table with another phase at one number
 abbrev pub withPhase : (ℕ → Phase) → ℕ → Phase → ℕ → Phase

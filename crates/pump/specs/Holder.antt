@@ -5,7 +5,7 @@ use mathlib.Core.List.{List, [], _∷_}
 use lib.ListN.{getD, set, replicate}
 use Rattle.base.specs.If.{if_then_else_}
 use Rattle.engine.specs.Control.{powerUpCore}
-use Rattle.engine.specs.Queries.{operating}
+use Rattle.engine.specs.Queries as queries
 use Rattle.engine.specs.Sound.{soundCore}
 use Rattle.engine.specs.declared.state.Core.{Core}
 use Rattle.line.specs.Lines.{emptyLine, soundLine}
@@ -43,9 +43,9 @@ withPhase p n x =
 unfoldable pub freshPump : Pump
 freshPump = record { phases = set (replicate phaseCount (powerUp 2)) 0 (powerUp 1); core = powerUpCore; line = emptyLine }
 
--- ---- the phase that a command concerns: the running one while operating, else the one chosen by PHN
+-- ---- the number of the phase that a command concerns
 unfoldable pub inHand : Pump → ℕ
-inHand p = if operating (p .core) then p .core .run .place .current else p .core .chosen
+inHand p = queries.inHand (p .core)
 
 -- ---- sound: every phase, the core with its current phase, the line
 unfoldable pub soundPhases : List Phase → Bool

@@ -1,2 +1,4 @@
 -- What the theorems of this crate speak of.
+pub mod Facts
 pub mod Histories
+pub mod Outcomes

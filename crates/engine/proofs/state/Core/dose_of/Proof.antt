@@ -4,7 +4,7 @@ use native.Mathlib.Omega.{arith}
 use native.Mathlib.Nat.{mul-le-mul}
 use Rattle.drive.proofs.Bounds.{step-volume-le}
 use Rattle.engine.specs.Working.{doseOf}
-use Rattle.engine.proofs.Visiting.{steps-le}
+use Rattle.dispense.proofs.Visiting.{steps-le}
 use borrow.Author.Needs.{needs}
 use Rattle.engine.proofs.state.Core.dose_of.Statement.{statement}
 use Rattle.engine.proofs.state.Core.dose_of.Tie as tie

@@ -3,7 +3,8 @@
 use native.Mathlib.Omega.{arith}
 use mathlib.Core.Path.{ap, sym}
 use Rattle.engine.specs.Working.{given}
-use Rattle.engine.proofs.Visiting.{steps-le, stepped}
+use Rattle.engine.proofs.Visiting.{stepped}
+use Rattle.dispense.proofs.Visiting.{steps-le}
 use borrow.Author.Needs.{needs}
 use Rattle.engine.proofs.state.Core.give.Statement.{statement}
 use Rattle.engine.proofs.state.Core.give.Tie as tie

@@ -1,0 +1,80 @@
+-- What follows from a visit's rules: at most four steps a tick and never past the target; the store stays below the threshold; and what a
+-- sound visit tells.
+-- Assumes nothing.
+use Prim.Native.Nat.{ℕ, _+_, _-_, _/_, _≤_, _<_, min}
+use mathlib.Core.Path.{_≡_}
+use mathlib.Core.Bool.{Bool, true, false, _&&_}
+use native.Mathlib.Nat.{div-lt-iff-lt-mul, mod-lt}
+use native.Mathlib.Omega.{arith}
+use lib.Dec.{ltb, eqb}
+use borrow.Author.Tests.{ltb-true, eqb-true, ne-eqb}
+use Rattle.base.specs.If.{if_then_else_}
+use Rattle.base.proofs.Choices.{and-right}
+use Rattle.base.proofs.Each.{Each, each, either}
+use Rattle.drive.specs.Rates.{hourly}
+use Rattle.drive.specs.Syringe.{mostDiameter, threshold}
+use Rattle.drive.specs.declared.rates.RateUnit.{RateUnit}
+use Rattle.drive.proofs.Bounds.{threshold-le}
+use Rattle.drive.proofs.Theorems.{usable-iff}
+use Rattle.program.specs.declared.phases.Phase.{Phase}
+use Rattle.dispense.specs.Visits.{Working, dueOf, storeOf, stepsOf, visitTests, soundVisit}
+use Rattle.dispense.specs.declared.rates.Rate.{Rate}
+use Rattle.dispense.specs.declared.rates.Rate.the-variants.{Current}
+use Rattle.dispense.specs.declared.visits.Visit.{Visit}
+
+module _ (v : Visit) (hourly limit : ℕ) (w : Working v hourly limit) where
+  pub threshold-above-0 : 0 < limit
+  threshold-above-0 = omega arith
+
+  pub due-le : dueOf v hourly limit ≤ 4
+  unfolding dueOf
+  due-le =
+      let h : (v .store + hourly) / limit < 5 = div-lt-iff-lt-mul threshold-above-0 .1 (omega arith) in
+      omega arith
+
+  pub store-stays-below : storeOf v hourly limit < limit
+  unfolding storeOf
+  store-stays-below = mod-lt _ threshold-above-0
+
+  of-due : (t : Bool) → (if t then dueOf v hourly limit else min (dueOf v hourly limit) (v .target - v .given)) ≤ dueOf v hourly limit
+  of-due true = omega arith
+  of-due false = omega arith
+
+  pub steps-le : stepsOf v hourly limit ≤ 4
+  unfolding stepsOf
+  steps-le = omega (arith, due-le, of-due (eqb (v .target) 0))
+
+  of-left :
+      (t : Bool)
+      → t ≡ false
+      → (if t then dueOf v hourly limit else min (dueOf v hourly limit) (v .target - v .given)) ≤ v .target - v .given
+  of-left true e = let z : _≡_ {A = ℕ} 0 1 = cc in absurd (omega arith)
+  of-left false e = omega arith
+
+  -- a visit with a target never gives more than what is left of it
+  pub steps-within-target : (v .target ≡ 0 → ⊥) → v .given + stepsOf v hourly limit ≤ v .target
+  unfolding stepsOf
+  steps-within-target ne = omega (arith, w .within, of-left (eqb (v .target) 0) (ne-eqb _ _ ne))
+
+pub visit-tests : (d : ℕ) (p : Phase) (rate : Rate) (v : Visit) → soundVisit d p rate v ≡ true → Each (visitTests d p rate v)
+unfolding soundVisit
+visit-tests d p rate v h = each (visitTests d p rate v) h
+
+-- ---- a sound visit at its rate
+pub visit-works :
+    (d : ℕ) (p : Phase) (r : ℕ) (unit : RateUnit) (v : Visit)
+    → d ≤ mostDiameter
+    → soundVisit d p (Current r unit) v ≡ true
+    → Working v (hourly r unit) (threshold d)
+visit-works d p r unit v hd h =
+    let t = visit-tests d p (Current r unit) v h in
+    record {
+      store-below = ltb-true (v .store) (threshold d) (t .0);
+      usable = usable-iff d r unit .0 (t .1 .1 .1 .0) .1;
+      within =
+          either (ltb (v .given) (v .target)) (eqb (p .volume) 0 && eqb (v .given) 0)
+          (λ e. omega (arith, ltb-true (v .given) (v .target) e))
+          (λ e. omega (arith, eqb-true (v .given) 0 (and-right (eqb (p .volume) 0) (eqb (v .given) 0) e)))
+          (t .1 .1 .0);
+      bounded = threshold-le d hd;
+    }

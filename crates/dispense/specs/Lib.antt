@@ -1,0 +1,4 @@
+-- What a rate phase dispenses.
+pub mod Rates
+pub mod Visits
+pub mod Totals

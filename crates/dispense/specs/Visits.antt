@@ -1,0 +1,57 @@
+-- A rate visit's working tick.   (01, Ticks and phases, RAT; Calls)
+use Prim.Native.Nat.{ℕ, _+_, _-_, _*_, _/_, _%_, _≤_, _<_, min}
+use mathlib.Core.Bool.{Bool, _&&_, _||_}
+use mathlib.Core.List.{List, [], _∷_}
+use lib.Dec.{ltb, leb, eqb}
+use Rattle.base.specs.All.{all}
+use Rattle.base.specs.If.{if_then_else_}
+use Rattle.drive.specs.Syringe.{threshold, target}
+use Rattle.program.specs.Functions.{pumps}
+use Rattle.program.specs.declared.phases.Phase.{Phase}
+use Rattle.dispense.specs.Rates.{usableRate}
+use Rattle.dispense.specs.declared.rates.Rate.{Rate}
+use Rattle.dispense.specs.declared.visits.Visit.{Visit}
+
+-- what a working tick may rely on
+pub record Working (v : Visit) (hourly threshold : ℕ) : Type 0 where
+  pub store-below : v .store < threshold
+  pub usable : hourly ≤ 4 * threshold
+  pub within : v .given ≤ v .target
+  pub bounded : threshold ≤ 1_767_150_000_000_000
+
+-- the hourly rate is added to the store; every threshold in it is a due step, and is taken off
+unfoldable pub dueOf : Visit → ℕ → ℕ → ℕ
+dueOf v hourly threshold = (v .store + hourly) / threshold
+
+unfoldable pub storeOf : Visit → ℕ → ℕ → ℕ
+storeOf v hourly threshold = (v .store + hourly) % threshold
+
+-- the due steps up to the target; a continuous visit has no target
+unfoldable pub stepsOf : Visit → ℕ → ℕ → ℕ
+stepsOf v hourly threshold =
+    if eqb (v .target) 0 then dueOf v hourly threshold else min (dueOf v hourly threshold) (v .target - v .given)
+
+-- a continuous visit counts none
+unfoldable pub givenOf : Visit → ℕ → ℕ → ℕ
+givenOf v hourly threshold = if eqb (v .target) 0 then v .given else v .given + stepsOf v hourly threshold
+
+unfoldable pub workedOf : Visit → ℕ → ℕ → Visit
+workedOf v hourly threshold = record { given = givenOf v hourly threshold; target = v .target; store = storeOf v hourly threshold }
+
+-- reaching the target ends the visit
+unfoldable pub doneOf : Visit → Bool
+doneOf v = ltb 0 (v .target) && leb (v .target) (v .given)
+
+-- ---- a visit: the store below the threshold, the target that phase, volume and diameter give, the steps given below it (a continuous
+-- visit has no target and counts none), a usable rate, in a RAT, INC or DEC phase
+abbrev pub visitTests : ℕ → Phase → Rate → Visit → List Bool
+visitTests d p rate v =
+    ltb (v .store) (threshold d)
+    ∷ eqb (v .target) (target d (p .volume))
+    ∷ (ltb (v .given) (v .target) || eqb (p .volume) 0 && eqb (v .given) 0)
+    ∷ usableRate d rate
+    ∷ pumps (p .function)
+    ∷ []
+
+unfoldable pub soundVisit : ℕ → Phase → Rate → Visit → Bool
+soundVisit d p rate v = all (visitTests d p rate v)

@@ -1,0 +1,2 @@
+-- The open loops.
+pub mod Loops

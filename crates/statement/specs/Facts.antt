@@ -1,0 +1,138 @@
+-- When a state is sound, said without a test: the clauses of document 01's sentence, a fact each, in its order. That the test which the
+-- calls run says just this is a theorem (proofs/Soundness.antt, sound-iff). Three clauses hold by the types of the state, and have no
+-- field here: the store is 0 outside a visit, at most one of visit, timed pause and trigger wait is under way, and each has its own
+-- data.   (01, Calls; Numbers; Volumes)
+use Prim.Native.Nat.{ℕ, _*_, _≤_, _<_}
+use mathlib.Core.Path.{_≡_}
+use mathlib.Core.Logic.{_⊎_}
+use mathlib.Core.Bool.{true}
+use mathlib.Core.List.{List}
+use lib.ListN.{length, getD}
+use Rattle.decimal.specs.Read.{readOf}
+use Rattle.decimal.specs.declared.input.Reading.the-variants.{Number}
+use Rattle.drive.specs.Rates.{hourly}
+use Rattle.drive.specs.Syringe.{threshold, target}
+use Rattle.program.specs.Functions.{pauseTicks}
+use Rattle.program.specs.declared.functions.Function.{Function}
+use Rattle.program.specs.declared.functions.Function.the-variants as f
+use Rattle.program.specs.declared.phases.Phase.{Phase}
+use Rattle.loops.specs.Loops.{slot}
+use Rattle.dispense.specs.Rates.{ratio}
+use Rattle.dispense.specs.declared.rates.Rate.{Rate}
+use Rattle.dispense.specs.declared.rates.Rate.the-variants.{NoRate, Current}
+use Rattle.dispense.specs.declared.visits.Visit.{Visit}
+use Rattle.line.specs.Lines.{text}
+use Rattle.line.specs.declared.lines.Line.{Line}
+use Rattle.engine.specs.declared.state.Mode.the-variants.{Stopped}
+use Rattle.engine.specs.declared.state.Pending.the-variants.{NoAlarm}
+use Rattle.engine.specs.declared.state.Run.{Run}
+use Rattle.engine.specs.declared.state.Trap.the-variants.{NoTrap, Armed}
+use Rattle.engine.specs.declared.state.Work.{Work}
+use Rattle.engine.specs.declared.state.Work.the-variants.{Entering, Visiting, Pausing, Waiting}
+use Rattle.pump.specs.Holder.{stopPhase, phaseAt}
+use Rattle.pump.specs.declared.holder.Pump.{Pump}
+
+abbrev pub Between : ℕ → ℕ → ℕ → Type 0
+Between least n most = (least ≤ n) × (n ≤ most)
+
+-- a stored number is writable if some input gives it
+abbrev pub Writable : ℕ → Type 0
+Writable x = (s : List ℕ) × (readOf s ≡ Number x)
+
+-- a function's datum is in its range: phases 1 to 41, counts 1 to 99, PAS up to 99 s or 0.1 to 9.9 s, levels 0 and 1
+abbrev pub Datum : Function → Type 0
+Datum f.Rat = Unit {0}
+Datum f.Inc = Unit {0}
+Datum f.Dec = Unit {0}
+Datum f.Stp = Unit {0}
+Datum (f.Jmp n) = Between 1 n 41
+Datum (f.Lop n) = Between 1 n 99
+Datum f.Lps = Unit {0}
+Datum f.Lpe = Unit {0}
+Datum (f.Pas n) = n ≤ 99
+Datum (f.Tenths n) = Between 1 n 99
+Datum (f.If n) = Between 1 n 41
+Datum (f.Evn n) = Between 1 n 41
+Datum f.Evr = Unit {0}
+Datum f.Bep = Unit {0}
+Datum (f.Out n) = n ≤ 1
+
+pub record PhaseFacts (p : Phase) : Type 0 where
+  pub datum : Datum (p .function)
+  pub rate : Writable (p .rate)
+  pub volume : Writable (p .volume)
+
+-- a character of a line is one that is neither dropped (0 to 32, 127) nor raised ('a' to 'z')
+pub record Character (c : ℕ) : Type 0 where
+  pub above-blank : 32 < c
+  pub no-delete : c ≡ 127 → ⊥
+  pub no-lower : 97 ≤ c → 122 < c
+
+-- a line of at most 40 characters, over-long only with 40
+pub record LineFacts (l : Line) : Type 0 where
+  pub forty : l .len ≤ 40
+  pub overlong-full : l .overlong ≡ true → 40 ≤ l .len
+  pub characters : (i : ℕ) → i < length (text l) → Character (getD (text l) i 0)
+
+-- every field is in the range given
+pub record Ranges (p : Pump) : Type 0 where
+  pub diameter : Between 100 (p .core .diameter) 50_000
+  pub chosen : Between 1 (p .core .chosen) 41
+  pub infused : p .core .totals .infused ≤ 1_000_000_000_000_000_000
+  pub withdrawn : p .core .totals .withdrawn ≤ 1_000_000_000_000_000_000
+  pub current : Between 1 (p .core .run .place .current) 42
+  pub rate : ratio (p .core .run .rate) ≤ 9_999_000
+  pub trap : (n : ℕ) → p .core .run .trap ≡ Armed n → Between 1 n 41
+  pub begun : (i : ℕ) → i < p .core .run .loops .count → slot (p .core .run .loops) i .begun ≤ 41
+  pub line : LineFacts (p .line)
+
+-- what is under way, and the phase that it stands in
+abbrev pub underWay : Pump → Work
+underWay p = p .core .run .place .work
+
+abbrev pub hereOf : Pump → Phase
+hereOf p = phaseAt (p .phases) (p .core .run .place .current)
+
+-- above 0, and at most four thresholds
+abbrev pub Usable : ℕ → Rate → Type 0
+Usable d NoRate = ⊥
+Usable d (Current r unit) = (0 < r) × (hourly r unit ≤ 4 * threshold d)
+
+pub record VisitFacts (p : Pump) (v : Visit) : Type 0 where
+  pub store-below : v .store < threshold (p .core .diameter)
+  pub aimed : v .target ≡ target (p .core .diameter) (hereOf p .volume)
+  pub given-below : (hereOf p .volume ≡ 0 → ⊥) → v .given < v .target
+  pub none-counted : hereOf p .volume ≡ 0 → v .given ≡ 0
+  pub usable : Usable (p .core .diameter) (p .core .run .rate)
+  pub in-rate-phase : (hereOf p .function ≡ f.Rat) ⊎ (hereOf p .function ≡ f.Inc) ⊎ (hereOf p .function ≡ f.Dec)
+
+-- none of the three, and no trap, loop or current rate
+pub record Nothing (r : Run) : Type 0 where
+  pub no-work : r .place .work ≡ Entering
+  pub no-trap : r .trap ≡ NoTrap
+  pub no-loop : r .loops .count ≡ 0
+  pub no-rate : r .rate ≡ NoRate
+
+pub record Sound (p : Pump) : Type 0 where
+  -- every field is in its range, and stored numbers are writable
+  pub ranges : Ranges p
+  pub diameter-writable : Writable (p .core .diameter)
+  pub phases : (i : ℕ) → i < length (p .phases) → PhaseFacts (getD (p .phases) i stopPhase)
+  -- open loops are at most three, begun by different phases
+  pub three-loops : p .core .run .loops .count ≤ 3
+  pub different-phases :
+      (i j : ℕ)
+      → i < j
+      → j < p .core .run .loops .count
+      → slot (p .core .run .loops) i .begun ≡ slot (p .core .run .loops) j .begun
+      → ⊥
+  -- a visit's store, target, steps given, rate and phase
+  pub visit : (v : Visit) → underWay p ≡ Visiting v → VisitFacts p v
+  -- an open loop has at most 98 passes
+  pub passes-few : (i : ℕ) → i < p .core .run .loops .count → slot (p .core .run .loops) i .passes ≤ 98
+  -- a timed pause has 1 to the full number of ticks of its PAS phase left; a trigger wait stands in PAS 0
+  pub pause : (left : ℕ) → underWay p ≡ Pausing left → Between 1 left (pauseTicks (hereOf p .function))
+  pub wait : underWay p ≡ Waiting → hereOf p .function ≡ f.Pas 0
+  -- a stopped pump has nothing under way; an alarm is pending only in a stopped pump
+  pub stopped : p .core .run .mode ≡ Stopped → Nothing (p .core .run)
+  pub alarm : (p .core .run .alarm ≡ NoAlarm → ⊥) → p .core .run .mode ≡ Stopped

@@ -1,7 +1,8 @@
 // Entering a phase, function by function. Entering does no work: a visit's first step comes with a later tick.
 ghost use mathlib.Core.Path.{_≡_};
 ghost use Prim.Native.Nat.{_≤_};
-ghost use Rattle.engine.specs.Entering.{begunVisit, enterRate, enterPause, startLoop, passLoop, endLoop, jumpIf, fired, armTrap, clearTrap, setOutput};
+ghost use Rattle.engine.specs.Entering.{begunVisit, enterRate, enterPause, startLoop, passLoop, endLoop, jumpIf, fired, armTrap};
+ghost use Rattle.engine.specs.Entering.{clearTrap, setOutput};
 ghost use Rattle.loops.specs.Loops.{Turning};
 use crate::state::Core;
 use crate::state::Trap;

@@ -1,6 +1,7 @@
 // The status, and what a query answers. The phase in hand is the running one while operating, else the chosen one.
 ghost use mathlib.Core.Path.{_≡_};
-ghost use Rattle.engine.specs.Queries.{operating, pumpingOf, statusOf, askRate, storedRate, currentRate, askVolume, askPhase, askTotals};
+ghost use Rattle.engine.specs.Queries.{operating, pumpingOf, statusOf, askRate, storedRate, currentRate, askVolume, askPhase};
+ghost use Rattle.engine.specs.Queries.{askTotals};
 use crate::state::Core;
 use crate::state::Mode;
 use crate::state::Work;

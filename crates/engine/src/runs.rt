@@ -1,7 +1,8 @@
 // The program under way: its parts replaced, and what starting, stopping, pausing and moving on make of it.
 ghost use mathlib.Core.Path.{_≡_};
 ghost use Prim.Native.Nat.{_≤_};
-ghost use Rattle.engine.specs.Runs.{at, withRate, withLoops, withTrap, withMode, freshAt, withRun, placed, toPhase, toNext, started, stopped, alarmed, paused, resumed, silent};
+ghost use Rattle.engine.specs.Runs.{at, withRate, withLoops, withTrap, withMode, freshAt, withRun, placed, toPhase, toNext};
+ghost use Rattle.engine.specs.Runs.{started, stopped, alarmed, paused, resumed, silent};
 use crate::state::Core;
 use crate::state::Mode;
 use crate::state::Moved;

@@ -1,7 +1,8 @@
 // The settings: DIA, RAT, VOL, DIR, PHN and FUN. Each tells first whether it applies now, then whether its data are in range, and
 // alters the core or the phase in hand only where it is accepted.
 ghost use mathlib.Core.Path.{_≡_};
-ghost use Rattle.engine.specs.Settings.{answered, settled, accepted, setDiameter, setRate, setStored, setFlow, setRamp, setCurrent, retuned};
+ghost use Rattle.engine.specs.Settings.{answered, settled, accepted, setDiameter, setRate, setStored, setFlow, setRamp, setCurrent};
+ghost use Rattle.engine.specs.Settings.{retuned};
 ghost use Rattle.engine.specs.Settings.{setVolume, setDirection, setPhase, setFunction, isFlow, isRamp, isVisiting, unitsOwn, unitOr};
 use crate::state::Core;
 use crate::state::Mode;

@@ -9,7 +9,8 @@ use borrow.Author.Tests.{leb-true, leb-false, le-leb, lt-leb, ltb-true, lt-ltb, 
 use Rattle.base.specs.If.{if_then_else_}
 use Rattle.base.proofs.Choices.{and-left, and-right, false-true}
 use Rattle.base.proofs.Each.{each, all-of, and-both}
-use Rattle.loops.specs.Loops.{noLoop, slot, begunBy, placeOf, closedTo, openedAt, newestOf, belowNewest, lopOf, lpeOf, soundSlot, apart, loopTests, soundLoops}
+use Rattle.loops.specs.Loops.{noLoop, slot, begunBy, placeOf, closedTo, openedAt, newestOf, belowNewest, lopOf, lpeOf, soundSlot, apart}
+use Rattle.loops.specs.Loops.{loopTests, soundLoops}
 use Rattle.loops.specs.declared.Loop.{Loop}
 use Rattle.loops.specs.declared.Loops.{Loops}
 use Rattle.loops.specs.declared.Turn.{Turn}

@@ -137,7 +137,9 @@ and-rest false u e h = false-true e
 
 bounded-by : (phases : ℕ) (x : Loop) → (leb (x .begun) phases && leb (x .passes) 98) ≡ true → (x .begun ≤ phases) × (x .passes ≤ 98)
 bounded-by phases x h =
-    (leb-true _ _ (and-left (leb (x .begun) phases) (leb (x .passes) 98) h), leb-true _ _ (and-right (leb (x .begun) phases) (leb (x .passes) 98) h))
+    let begun = and-left (leb (x .begun) phases) (leb (x .passes) 98) h in
+    let passes = and-right (leb (x .begun) phases) (leb (x .passes) 98) h in
+    (leb-true _ _ begun, leb-true _ _ passes)
 
 -- ---- tests that are asked only of open loops
 unless : (c i : ℕ) (t : Bool) → (leb c i || t) ≡ true → i < c → t ≡ true
@@ -185,7 +187,7 @@ pub loop-tests-of :
     → ((i j : ℕ) → i < j → j < l .count → slot l i .begun ≡ slot l j .begun → ⊥)
     → Each (loopTests phases l)
 loop-tests-of phases l t b d =
-    (le-leb (l .count) 3 t, (in-range 0, (in-range 1, (in-range 2, (differ 0 1 (omega arith), (differ 0 2 (omega arith), (differ 1 2 (omega arith), tt)))))))
+    (le-leb (l .count) 3 t, (in-range 0, (in-range 1, (in-range 2, apart-all))))
   where
     in-range : (i : ℕ) → (leb (l .count) i || leb (slot l i .begun) phases && leb (slot l i .passes) 98) ≡ true
     in-range i =
@@ -195,13 +197,18 @@ loop-tests-of phases l t b d =
     differ : (i j : ℕ) → i < j → apart l i j ≡ true
     differ i j m = unless-test (l .count) j _ (λ k. ap not (ne-eqb _ _ (d i j m k)))
 
+    apart-all : Each (apart l 0 1 ∷ apart l 0 2 ∷ apart l 1 2 ∷ [])
+    apart-all = (differ 0 1 (omega arith), (differ 0 2 (omega arith), (differ 1 2 (omega arith), tt)))
+
 -- ---- the characters of a line
 module _ (c : ℕ) where
   pub character : standing c ≡ true → Character c
   unfolding standing isDropped isLower
   character h =
-      let dropped : (leb c 32 || eqb c 127) ≡ false = not-true (leb c 32 || eqb c 127) (and-left (not (leb c 32 || eqb c 127)) (not (leb 97 c && leb c 122)) h) in
-      let lower : (leb 97 c && leb c 122) ≡ false = not-true (leb 97 c && leb c 122) (and-right (not (leb c 32 || eqb c 127)) (not (leb 97 c && leb c 122)) h) in
+      let stays = and-left (not (leb c 32 || eqb c 127)) (not (leb 97 c && leb c 122)) h in
+      let upper = and-right (not (leb c 32 || eqb c 127)) (not (leb 97 c && leb c 122)) h in
+      let dropped : (leb c 32 || eqb c 127) ≡ false = not-true (leb c 32 || eqb c 127) stays in
+      let lower : (leb 97 c && leb c 122) ≡ false = not-true (leb 97 c && leb c 122) upper in
       record {
         above-blank = leb-false c 32 (or-left (leb c 32) (eqb c 127) dropped);
         no-delete = eqb-false c 127 (or-right (leb c 32) (eqb c 127) dropped);

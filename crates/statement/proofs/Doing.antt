@@ -141,11 +141,15 @@ module _ (before : List ℕ) (h : 24 ≤ length before) where
         },
       )
 
-report-either : (t : Bool) (s u : Said) (before : List ℕ) → (if t then reportOf s before else reportOf u before) ≡ reportOf (if t then s else u) before
+report-either :
+    (t : Bool) (s u : Said) (before : List ℕ)
+    → (if t then reportOf s before else reportOf u before) ≡ reportOf (if t then s else u) before
 report-either true s u before = refl
 report-either false s u before = refl
 
-buffer-either : (t : Bool) (s u : Said) (before : List ℕ) → (if t then bufferOf s before else bufferOf u before) ≡ bufferOf (if t then s else u) before
+buffer-either :
+    (t : Bool) (s u : Said) (before : List ℕ)
+    → (if t then bufferOf s before else bufferOf u before) ≡ bufferOf (if t then s else u) before
 buffer-either true s u before = refl
 buffer-either false s u before = refl
 

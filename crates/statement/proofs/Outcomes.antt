@@ -28,7 +28,8 @@ use Rattle.statement.specs.Facts.{hereOf}
 use Rattle.statement.specs.Histories.{Call, byteIn, pinAt, tickIn, reportAfter, bufferBefore, Untouched, refusalOf}
 use Rattle.statement.specs.Outcomes as out
 use Rattle.statement.specs.Outcomes.{Outcome, outcomeOf}
-use Rattle.statement.specs.Outcomes.{TurnedDown, Still, Silent, Written, Ticked, Edge, two-high, two-low, four-high, four-low, six-high, six-low}
+use Rattle.statement.specs.Outcomes.{TurnedDown, Still, Silent, Written, Ticked, Edge, two-high, two-low, four-high, four-low}
+use Rattle.statement.specs.Outcomes.{six-high, six-low}
 use Rattle.statement.specs.Outcomes.{Told, Does, Meets}
 use Rattle.statement.proofs.Hearing.{hears, hears-is}
 use Rattle.statement.proofs.Refused.{refused-alone, refused-as-listed}
@@ -36,7 +37,11 @@ use Rattle.statement.proofs.Verdicts.{Verdict, turns-down, takes, verdi
 use Rattle.statement.proofs.Doing.{does}
 
 -- ---- every call meets the relation
-untouched-down : (p : Pump) (call : Call) (x : Refusal) → reportAfter p call .refusal ≡ x → Untouched p call → TurnedDown p x (bufferBefore call) (outcomeOf p call)
+untouched-down :
+    (p : Pump) (call : Call) (x : Refusal)
+    → reportAfter p call .refusal ≡ x
+    → Untouched p call
+    → TurnedDown p x (bufferBefore call) (outcomeOf p call)
 untouched-down p call x e u =
     record {
       number = e;
@@ -87,8 +92,8 @@ turned-unique p x before y z a b =
 
 still-unique : (q : Pump) (y z : Outcome) → Still q y → Still q z → y .report .length ≡ z .report .length → y .report ≡ z .report
 still-unique q y z a b e =
-    report-path (a .new-state ∙ sym (b .new-state)) e (a .none-infused ∙ sym (b .none-infused)) (a .none-withdrawn ∙ sym (b .none-withdrawn))
-    (a .no-beep ∙ sym (b .no-beep)) (a .taken ∙ sym (b .taken)) (a .level ∙ sym (b .level))
+    report-path (a .new-state ∙ sym (b .new-state)) e (a .none-infused ∙ sym (b .none-infused))
+    (a .none-withdrawn ∙ sym (b .none-withdrawn)) (a .no-beep ∙ sym (b .no-beep)) (a .taken ∙ sym (b .taken)) (a .level ∙ sym (b .level))
 
 silent-unique : (q : Pump) (before : List ℕ) (y z : Outcome) → Still q y × Silent before y → Still q z × Silent before z → y ≡ z
 silent-unique q before y z a b =
@@ -122,7 +127,13 @@ edge-is s pin level core four-low = refl
 edge-is s pin level core six-high = refl
 edge-is s pin level core six-low = refl
 
-beeps-same : (p : Pump) (y z : Outcome) → Ticked p y → Ticked p z → (t : Bool) → tickOf (p .core) (hereOf p) .beep ≡ t → y .report .beeps ≡ z .report .beeps
+beeps-same :
+    (p : Pump) (y z : Outcome)
+    → Ticked p y
+    → Ticked p z
+    → (t : Bool)
+    → tickOf (p .core) (hereOf p) .beep ≡ t
+    → y .report .beeps ≡ z .report .beeps
 beeps-same p y z a b true e = a .one-beep e ∙ sym (b .one-beep e)
 beeps-same p y z a b false e = a .no-beep e ∙ sym (b .no-beep e)
 
@@ -145,8 +156,9 @@ does-unique p (byteIn b buffer) y z a k =
     told-unique (a .said) buffer y z (a .told)
     (subst (λ s. Told s buffer z) (hears-is p b (k .said) (k .hears) ∙ sym (hears-is p b (a .said) (a .hears))) (k .told))
 does-unique p (pinAt pin level) y z a b =
+    let same = edge-is (p .core) pin level (b .core) (b .edge) ∙ sym (edge-is (p .core) pin level (a .core) (a .edge)) in
     silent-unique (withCore p (a .core)) [] y z (a .still, a .silent)
-    (subst (λ s. Still (withCore p s) z) (edge-is (p .core) pin level (b .core) (b .edge) ∙ sym (edge-is (p .core) pin level (a .core) (a .edge))) (b .still), b .silent)
+    (subst (λ s. Still (withCore p s) z) same (b .still), b .silent)
 does-unique p tickIn y z a b = ticked-unique p y z a b
 
 pub outcome-unique : (p : Pump) (call : Call) (y z : Outcome) → Meets p call y → Meets p call z → y ≡ z

@@ -21,6 +21,7 @@ use Rattle.dispense.specs.declared.rates.Rate.the-variants.{NoRate, Current}
 use Rattle.line.specs.Lines.{text, allStanding, soundLine}
 use Rattle.line.specs.declared.lines.Line.{Line}
 use Rattle.engine.specs.Sound.{soundMode, idleTests, isEntering, isNoTrap, isNoAlarm}
+use Rattle.answer.specs.declared.statuses.Alarm.{Alarm}
 use Rattle.engine.specs.declared.state.Mode.{Mode}
 use Rattle.engine.specs.declared.state.Mode.the-variants.{Stopped, Paused, Running}
 use Rattle.engine.specs.declared.state.Pending.{Pending}
@@ -110,6 +111,9 @@ no-alarm-of : (a : Pending) → isNoAlarm a ≡ true → a ≡ NoAlarm
 no-alarm-of NoAlarm h = refl
 no-alarm-of (Raised a) h = false-true h
 
+raised-pends : (a : Alarm) → _≡_ {A = Pending} (Raised a) NoAlarm → ⊥
+raised-pends a e = let z : _≡_ {A = ℕ} 0 1 = cc in absurd (omega arith)
+
 module _ (r : Run) where
   pub nothing : (m : Mode) → soundMode r m ≡ true → m ≡ Stopped → Nothing r
   nothing Stopped h e =
@@ -137,9 +141,9 @@ module _ (r : Run) where
     where
       quiet : (x : Pending) → ((x ≡ NoAlarm → ⊥) → _≡_ {A = Mode} Paused Stopped) → isNoAlarm x ≡ true
       quiet NoAlarm b = refl
-      quiet (Raised y) b = let k : _≡_ {A = Mode} Paused Stopped = b (λ e. let z : _≡_ {A = ℕ} 0 1 = cc in absurd (omega arith)) in let z : _≡_ {A = ℕ} 0 1 = cc in absurd (omega arith)
+      quiet (Raised y) b = let k = b (raised-pends y) in let z : _≡_ {A = ℕ} 0 1 = cc in absurd (omega arith)
   mode-test Running n a = quiet (r .alarm) a
     where
       quiet : (x : Pending) → ((x ≡ NoAlarm → ⊥) → _≡_ {A = Mode} Running Stopped) → isNoAlarm x ≡ true
       quiet NoAlarm b = refl
-      quiet (Raised y) b = let k : _≡_ {A = Mode} Running Stopped = b (λ e. let z : _≡_ {A = ℕ} 0 1 = cc in absurd (omega arith)) in let z : _≡_ {A = ℕ} 0 1 = cc in absurd (omega arith)
+      quiet (Raised y) b = let k = b (raised-pends y) in let z : _≡_ {A = ℕ} 0 1 = cc in absurd (omega arith)

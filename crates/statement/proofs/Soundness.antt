@@ -25,12 +25,14 @@ use Rattle.engine.specs.declared.state.Trap.{Trap}
 use Rattle.engine.specs.declared.state.Trap.the-variants.{NoTrap, Armed}
 use Rattle.engine.specs.declared.state.Work.{Work}
 use Rattle.engine.specs.declared.state.Work.the-variants.{Entering, Visiting, Pausing, Waiting}
-use Rattle.engine.proofs.Readiness.{run-tests, ranges-sound, work-sound, visit-sound, run-sound, loops-sound, diameter-ge, diameter-le, diameter-writable, chosen-ge, chosen-le, infused-le, withdrawn-le, current-ge, current-le, rate-le}
+use Rattle.engine.proofs.Readiness.{run-tests, ranges-sound, work-sound, visit-sound, run-sound, loops-sound, diameter-ge, diameter-le}
+use Rattle.engine.proofs.Readiness.{diameter-writable, chosen-ge, chosen-le, infused-le, withdrawn-le, current-ge, current-le, rate-le}
 use Rattle.pump.specs.Holder.{phaseCount, soundPhases, soundPump}
 use Rattle.pump.specs.declared.holder.Pump.{Pump}
 use Rattle.pump.proofs.Phases.{pump-phases, pump-core, pump-line}
 use Rattle.statement.specs.Facts.{Ranges, underWay, hereOf, VisitFacts, Sound}
-use Rattle.statement.proofs.Clauses.{between, between-test, rate-phase, rate-phase-test, wait-phase, usable-rate, usable-rate-test, slot-bounded, slots-differ, three, loop-tests-of}
+use Rattle.statement.proofs.Clauses.{between, between-test, rate-phase, rate-phase-test, wait-phase, usable-rate, usable-rate-test}
+use Rattle.statement.proofs.Clauses.{slot-bounded, slots-differ, three, loop-tests-of}
 use Rattle.statement.proofs.Parts.{line-facts, line-test, each-phase, phases-test, nothing, alarm-stops, mode-test}
 
 or-first : (t u : Bool) → t ≡ true → (t || u) ≡ true
@@ -75,7 +77,8 @@ module _ (p : Pump) (e : soundPump p ≡ true) where
 
   visit-facts : (v : Visit) → underWay p ≡ Visiting v → VisitFacts p v
   visit-facts v k =
-      let t = visit-tests (p .core .diameter) (hereOf p) (p .core .run .rate) v (visit-sound phaseCount (p .core) (hereOf p) (pump-core p e) v k) in
+      let s = visit-sound phaseCount (p .core) (hereOf p) (pump-core p e) v k in
+      let t = visit-tests (p .core .diameter) (hereOf p) (p .core .run .rate) v s in
       record {
         store-below = ltb-true (v .store) (threshold (p .core .diameter)) (t .0);
         aimed = aimed-at t;
@@ -87,18 +90,22 @@ module _ (p : Pump) (e : soundPump p ≡ true) where
         none-counted =
             λ z.
             either (ltb (v .given) (v .target)) (eqb (hereOf p .volume) 0 && eqb (v .given) 0)
-            (λ k. absurd (omega (arith, ltb-true (v .given) (v .target) k, aimed-at t ∙ no-target (p .core .diameter) (hereOf p .volume) z)))
+            (λ k. let none = no-target (p .core .diameter) (hereOf p .volume) z in absurd (omega (arith, ltb-true _ _ k, aimed-at t ∙ none)))
             (λ k. eqb-true (v .given) 0 (and-right (eqb (hereOf p .volume) 0) (eqb (v .given) 0) k))
             (t .1 .1 .0);
         usable = usable-rate (p .core .diameter) (p .core .run .rate) (t .1 .1 .1 .0);
         in-rate-phase = rate-phase (hereOf p .function) (t .1 .1 .1 .1 .0);
       }
     where
-      aimed-at : Each (visitTests (p .core .diameter) (hereOf p) (p .core .run .rate) v) → v .target ≡ target (p .core .diameter) (hereOf p .volume)
+      aimed-at :
+          Each (visitTests (p .core .diameter) (hereOf p) (p .core .run .rate) v)
+          → v .target ≡ target (p .core .diameter) (hereOf p .volume)
       aimed-at t = eqb-true (v .target) (target (p .core .diameter) (hereOf p .volume)) (t .1 .0)
 
   work : (w : Work) → underWay p ≡ w → soundWork (p .core .diameter) (hereOf p) (p .core .run .rate) w ≡ true
-  work w k = sym (ap (soundWork (p .core .diameter) (hereOf p) (p .core .run .rate)) k) ∙ work-sound phaseCount (p .core) (hereOf p) (pump-core p e)
+  work w k =
+      sym (ap (soundWork (p .core .diameter) (hereOf p) (p .core .run .rate)) k)
+      ∙ work-sound phaseCount (p .core) (hereOf p) (pump-core p e)
 
   pub sound-facts : Sound p
   sound-facts =
@@ -122,7 +129,9 @@ module _ (p : Pump) (s : Sound p) where
   unfolding soundLoops
   loops-test =
       all-of (loopTests phaseCount (p .core .run .loops))
-      (loop-tests-of phaseCount (p .core .run .loops) (s .three-loops) (λ i k. (s .ranges .begun i k, s .passes-few i k)) (s .different-phases))
+      (loop-tests-of phaseCount (p .core .run .loops) (s .three-loops)
+      (λ i k. (s .ranges .begun i k, s .passes-few i k))
+      (s .different-phases))
 
   trap-test : (t : Trap) → p .core .run .trap ≡ t → soundTrap 41 t ≡ true
   trap-test NoTrap e = refl
@@ -137,7 +146,10 @@ module _ (p : Pump) (s : Sound p) where
           le-leb _ _ (s .ranges .current .1),
           (
             le-leb _ _ (s .ranges .rate),
-            (trap-test (p .core .run .trap) refl, (loops-test, (mode-test (p .core .run) (p .core .run .mode) (s .stopped) (s .alarm), tt))),
+            (
+              trap-test (p .core .run .trap) refl,
+              (loops-test, (mode-test (p .core .run) (p .core .run .mode) (s .stopped) (s .alarm), tt)),
+            ),
           ),
         ),
       )
@@ -160,9 +172,17 @@ module _ (p : Pump) (s : Sound p) where
       )
 
   given-test :
-      (v : Visit) → VisitFacts p v → (t : Bool) → eqb (hereOf p .volume) 0 ≡ t → (ltb (v .given) (v .target) || t && eqb (v .given) 0) ≡ true
-  given-test v k true z = or-last (ltb (v .given) (v .target)) (eqb (v .given) 0) (eq-eqb (v .given) 0 (k .none-counted (eqb-true (hereOf p .volume) 0 z)))
-  given-test v k false z = or-first (ltb (v .given) (v .target)) false (lt-ltb (v .given) (v .target) (k .given-below (eqb-false (hereOf p .volume) 0 z)))
+      (v : Visit)
+      → VisitFacts p v
+      → (t : Bool)
+      → eqb (hereOf p .volume) 0 ≡ t
+      → (ltb (v .given) (v .target) || t && eqb (v .given) 0) ≡ true
+  given-test v k true z =
+      let none = k .none-counted (eqb-true (hereOf p .volume) 0 z) in
+      or-last (ltb (v .given) (v .target)) (eqb (v .given) 0) (eq-eqb (v .given) 0 none)
+  given-test v k false z =
+      let few = k .given-below (eqb-false (hereOf p .volume) 0 z) in
+      or-first (ltb (v .given) (v .target)) false (lt-ltb (v .given) (v .target) few)
 
   visit-test : (v : Visit) → VisitFacts p v → soundVisit (p .core .diameter) (hereOf p) (p .core .run .rate) v ≡ true
   unfolding soundVisit
@@ -173,7 +193,10 @@ module _ (p : Pump) (s : Sound p) where
           eq-eqb _ _ (k .aimed),
           (
             given-test v k (eqb (hereOf p .volume) 0) refl,
-            (usable-rate-test (p .core .diameter) (p .core .run .rate) (k .usable), (rate-phase-test (hereOf p .function) (k .in-rate-phase), tt)),
+            (
+              usable-rate-test (p .core .diameter) (p .core .run .rate) (k .usable),
+              (rate-phase-test (hereOf p .function) (k .in-rate-phase), tt),
+            ),
           ),
         ),
       )
@@ -188,7 +211,9 @@ module _ (p : Pump) (s : Sound p) where
   unfolding soundPump soundCore
   sound-test =
       and-both (soundPhases (p .phases)) _ (phases-test (p .phases) (s .phases))
-      (and-both _ (soundLine (p .line)) (and-both (soundRanges phaseCount (p .core)) _ ranges-test (work-test (underWay p) refl)) (line-test (p .line) (s .ranges .line)))
+      (and-both _ (soundLine (p .line))
+      (and-both (soundRanges phaseCount (p .core)) _ ranges-test (work-test (underWay p) refl))
+      (line-test (p .line) (s .ranges .line)))
 
 pub sound-iff : (p : Pump) → (soundPump p ≡ true) ↔ Sound p
 sound-iff p = (sound-facts p, sound-test p)

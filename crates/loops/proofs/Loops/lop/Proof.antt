@@ -1,8 +1,11 @@
 -- `Loops::lop` meets its contract.
 -- Assumes nothing.
-use borrow.Author.Tests.{le-leb, lt-leb}
+use Prim.Native.Nat.{ℕ, _+_, _≤_}
+use mathlib.Core.Path.{_≡_}
 use native.Mathlib.Omega.{arith}
-use Rattle.loops.specs.Loops.{lopOf}
+use borrow.Author.Tests.{le-leb, lt-leb}
+use Rattle.loops.specs.Loops.{newestOf, belowNewest, closedTo, lopOf}
+use Rattle.loops.specs.declared.Loops.{Loops}
 use borrow.Author.Needs.{needs}
 use Rattle.loops.proofs.Loops.lop.Statement.{statement}
 use Rattle.loops.proofs.Loops.lop.Tie as tie
@@ -22,11 +25,20 @@ closed-to-requires c κs = search needs
 add-t11 : tie.Need-add-t11
 add-t11 c = search needs
 
-returns : tie.Need-returns
+-- the passes reach n
+closes :
+    (l : Loops) (n current : ℕ)
+    → n ≤ newestOf l .passes + 1
+    → record { loops = closedTo l (belowNewest l); next = current + 1 } ≡ lopOf l n current
 unfolding lopOf
+closes l n current h = simp (le-leb n (newestOf l .passes + 1) h)
+
+returns : tie.Need-returns
 returns c =
+    let k = c .before .before .before .before .before in
+    let reached = rw (c .before .before .before .before .newest .ensures) at (c .before .if1 .taken) in
     rw (c .closed-to .ensures, c .before .before .before .below .ensures)
-    (simp (le-leb _ _ (rw (c .before .before .before .before .newest .ensures) at (c .before .if1 .taken))))
+    (closes (k .args .self) (k .args .n) (k .args .current) (omega (arith, reached)))
 
 opened-at-requires : tie.Need-opened-at-requires
 opened-at-requires c κs = search needs

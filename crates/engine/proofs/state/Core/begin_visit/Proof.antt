@@ -1,6 +1,6 @@
 -- `Core::begin_visit` meets its contract.
 -- Assumes nothing.
-use Rattle.engine.specs.Entering.{begunVisit}
+use Rattle.engine.proofs.Visiting.{ends-at-entry, goes-on}
 use borrow.Author.Needs.{needs}
 use Rattle.engine.proofs.state.Core.begin_visit.Statement.{statement}
 use Rattle.engine.proofs.state.Core.begin_visit.Tie as tie
@@ -12,17 +12,13 @@ to-next-requires : tie.Need-to-next-requires
 to-next-requires c κs = search needs
 
 returns : tie.Need-returns
-unfolding begunVisit
-returns c = rw (c .to-next .ensures) (simp (rw (c .before .before .before .step-target .ensures) at (c .before .if1 .taken)))
+returns c = search ends-at-entry
 
 placed-requires : tie.Need-placed-requires
 placed-requires c κs = search needs
 
 returns-2 : tie.Need-returns-2
-unfolding begunVisit
-returns-2 c =
-    rw (c .placed .ensures, c .before .before .before .step-target .ensures)
-    (simp (rw (c .before .before .before .step-target .ensures) at (c .before .if1 .left)))
+returns-2 c = search goes-on
 
 pub begin-visit-spec : {M : Type 1} → statement M
 begin-visit-spec =

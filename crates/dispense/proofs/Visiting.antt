@@ -64,10 +64,10 @@ visit-tests d p rate v h = each (visitTests d p rate v) h
 pub visit-works :
     (d : ℕ) (p : Phase) (r : ℕ) (unit : RateUnit) (v : Visit)
     → d ≤ mostDiameter
-    → soundVisit d p (Current r unit) v ≡ true
+    → soundVisit d p (Current unit r) v ≡ true
     → Working v (hourly r unit) (threshold d)
 visit-works d p r unit v hd h =
-    let t = visit-tests d p (Current r unit) v h in
+    let t = visit-tests d p (Current unit r) v h in
     record {
       store-below = ltb-true (v .store) (threshold d) (t .0);
       usable = usable-iff d r unit .0 (t .1 .1 .1 .0) .1;

@@ -5,10 +5,11 @@ ghost use Rattle.drive.specs.Rates.{mostRate};
 ghost use Rattle.dispense.specs.Rates.{ratio, raised, lowered, isNoRate, usableRate};
 use drive::RateUnit;
 
-// The current rate, in thousandths of its units.
+// The current rate: its units, and how many thousandths of them. The unit comes first, so that no three bytes lie unused: the
+// compiler would carry them along at every tick.
 pub enum Rate {
     NoRate,
-    Current(u32, RateUnit),
+    Current(RateUnit, u32),
 }
 
 impl Rate {
@@ -19,9 +20,9 @@ impl Rate {
     {
         match self {
             Rate::NoRate => Rate::NoRate,
-            Rate::Current(r, unit) => {
+            Rate::Current(unit, r) => {
                 if r + x <= decimal::MOST {
-                    return Rate::Current(r + x, unit);
+                    return Rate::Current(unit, r + x);
                 }
                 Rate::NoRate
             }
@@ -34,11 +35,11 @@ impl Rate {
     {
         match self {
             Rate::NoRate => Rate::NoRate,
-            Rate::Current(r, unit) => {
+            Rate::Current(unit, r) => {
                 if r < x {
-                    return Rate::Current(0, unit);
+                    return Rate::Current(unit, 0);
                 }
-                Rate::Current(r - x, unit)
+                Rate::Current(unit, r - x)
             }
         }
     }
@@ -48,7 +49,7 @@ impl Rate {
     {
         match self {
             Rate::NoRate => 0,
-            Rate::Current(r, _) => r,
+            Rate::Current(_, r) => r,
         }
     }
 
@@ -66,7 +67,7 @@ impl Rate {
     {
         match self {
             Rate::NoRate => false,
-            Rate::Current(r, unit) => drive::is_usable(d, r, unit),
+            Rate::Current(unit, r) => drive::is_usable(d, r, unit),
         }
     }
 }

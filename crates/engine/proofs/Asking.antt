@@ -37,7 +37,7 @@ module _ (s : Core) (p : Phase) (r : Status) where
 pub ruleset statuses = (status-by, status-on)
 
 -- ---- RAT and VOL
-pub shows-current : (k : Rate) (x : ℕ) (u : RateUnit) → k ≡ Current x u → reply.Rate x u ≡ currentRate k
+pub shows-current : (k : Rate) (x : ℕ) (u : RateUnit) → k ≡ Current u x → reply.Rate x u ≡ currentRate k
 shows-current k x u e = ap currentRate (sym e)
 
 pub shows-stored : (p : Phase) (g : Function) (r : Reply) → p .function ≡ g → r ≡ storedBy p g → r ≡ storedRate p

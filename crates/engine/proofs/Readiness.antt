@@ -157,7 +157,7 @@ module _ (phases : ℕ) (s : Core) (p : Phase) (ready : Ready phases s p) where
       record {
         small = ready-rate;
         gives =
-            λ (r : ℕ) (unit : RateUnit) (f : s .run .rate ≡ Current r unit).
+            λ (r : ℕ) (unit : RateUnit) (f : s .run .rate ≡ Current unit r).
             record {
               high = diameter-le phases s ready-ranges;
               here = ready-current;

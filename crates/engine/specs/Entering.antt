@@ -26,8 +26,8 @@ begunVisit s p =
 -- no rate, or one that is not usable, is alarm E
 unfoldable pub enterRate : Core → Phase → Rate → Core
 enterRate s p NoRate = alarmed s Program
-enterRate s p (Current r unit) =
-    if usable (s .diameter) r unit then begunVisit (withRun s (withRate (s .run) (Current r unit))) p else alarmed s Program
+enterRate s p (Current unit r) =
+    if usable (s .diameter) r unit then begunVisit (withRun s (withRate (s .run) (Current unit r))) p else alarmed s Program
 
 -- PAS: 0 ticks is the trigger wait; both drop the current rate
 unfoldable pub enterPause : Core → ℕ → Core

@@ -59,7 +59,7 @@ statusOf s current = statusBy (current .direction) (s .run .place .work) (s .run
 -- ---- RAT: while operating, in any phase, the current rate and its units; else the stored rate of a rate phase, with units if RAT
 abbrev pub currentRate : Rate → Reply
 currentRate NoRate = reply.NotApplicable
-currentRate (Current x unit) = reply.Rate x unit
+currentRate (Current unit x) = reply.Rate x unit
 
 abbrev pub storedBy : Phase → Function → Reply
 storedBy p f.Rat = reply.Rate (p .rate) (p .unit)

@@ -138,9 +138,9 @@ setStored s p x units =
 -- while operating it alters the current rate alone, in its units; the time store and the stored rate stay
 abbrev pub retuned : Core → Phase → ℕ → Rate → Obeyed
 retuned s p x NoRate = answered s p reply.NotApplicable
-retuned s p x (Current r unit) =
+retuned s p x (Current unit r) =
     if usable (s .diameter) x unit
-    then answered (withRun s (withRate (s .run) (Current x unit))) p reply.Status
+    then answered (withRun s (withRate (s .run) (Current unit x))) p reply.Status
     else answered s p reply.OutOfRange
 
 -- only an entered RAT phase under way, the next phase number not INC or DEC, no units

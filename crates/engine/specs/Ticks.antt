@@ -19,7 +19,7 @@ use Rattle.engine.specs.declared.state.Work.the-variants.{Entering, Visi
 
 -- entering a phase, by its function
 abbrev pub enterBy : Core → Phase → Function → Core
-enterBy s p f.Rat = enterRate s p (Current (p .rate) (p .unit))
+enterBy s p f.Rat = enterRate s p (Current (p .unit) (p .rate))
 enterBy s p f.Inc = enterRate s p (raised (s .run .rate) (p .rate))
 enterBy s p f.Dec = enterRate s p (lowered (s .run .rate) (p .rate))
 enterBy s p f.Stp = stopped s

@@ -61,12 +61,12 @@ giveSteps s p v hourly =
 -- at the current rate; a sound visit has one
 unfoldable pub workVisit : Core → Phase → Visit → Rate → Moved
 workVisit s p v NoRate = silent s
-workVisit s p v (Current r unit) = giveSteps s p v (hourly r unit)
+workVisit s p v (Current unit r) = giveSteps s p v (hourly r unit)
 
 -- what that may rely on
 pub record AtRate (s : Core) (p : Phase) (v : Visit) (rate : Rate) : Type 0 where
   pub small : ratio rate ≤ mostRate
-  pub gives : (r : ℕ) (unit : _) → rate ≡ Current r unit → Giving s p v (hourly r unit)
+  pub gives : (r : ℕ) (unit : _) → rate ≡ Current unit r → Giving s p v (hourly r unit)
 
 -- a timed pause ends on its last tick
 unfoldable pub workPause : Core → ℕ → Core

@@ -22,7 +22,7 @@ impl Core {
     {
         match rate {
             Rate::NoRate => self.alarmed(Alarm::Program),
-            Rate::Current(r, unit) => {
+            Rate::Current(unit, r) => {
                 if drive::is_usable(self.diameter, r, unit) {
                     let run = self.run;
                     return self.with_run(run.with_rate(rate)).begin_visit(here);

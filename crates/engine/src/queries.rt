@@ -112,7 +112,7 @@ fn current_rate(rate: Rate) -> Reply
 {
     match rate {
         Rate::NoRate => Reply::NotApplicable,
-        Rate::Current(x, unit) => Reply::Rate(x, unit),
+        Rate::Current(unit, x) => Reply::Rate(x, unit),
     }
 }
 

@@ -98,10 +98,10 @@ impl Core {
     {
         match rate {
             Rate::NoRate => self.answered(here, Reply::NotApplicable),
-            Rate::Current(_, unit) => {
+            Rate::Current(unit, _) => {
                 if drive::is_usable(self.diameter, x, unit) {
                     let run = self.run;
-                    let tuned = self.with_run(run.with_rate(Rate::Current(x, unit)));
+                    let tuned = self.with_run(run.with_rate(Rate::Current(unit, x)));
                     return tuned.answered(here, Reply::Status);
                 }
                 self.answered(here, Reply::OutOfRange)

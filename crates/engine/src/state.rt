@@ -36,14 +36,15 @@ pub enum Pending {
     Raised(Alarm),
 }
 
-// The program under way: starting, stopping and alarms replace it whole.
+// The program under way: starting, stopping and alarms replace it whole. The loops' seven bytes and the mode make eight, which the
+// compiler carries as one number.
 pub struct Run {
     pub place: Place,
     pub rate: Rate,
     pub loops: Loops,
+    pub mode: Mode,
     pub trap: Trap,
     pub alarm: Pending,
-    pub mode: Mode,
 }
 
 // The levels: true is high. The output's level stands beside those of the pins.

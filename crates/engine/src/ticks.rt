@@ -47,6 +47,7 @@ impl Core {
         }
     }
 
+    // RAT, INC and DEC meet in one call, so that the compiler takes it in here and keeps the core in registers.
     fn enter(self, here: Phase, phases: u8) -> Core
         requires { ⌜ Ready phases self here ⌝ }
         ensures { λ r. ⌜ r ≡ enter self here ⌝ }
@@ -54,24 +55,25 @@ impl Core {
         let function = here.function;
         let unit = here.unit;
         let run = self.run;
-        let rate = run.rate;
-        match function {
-            Function::Rat => self.enter_rate(here, Rate::Current(here.rate, unit)),
-            Function::Inc => self.enter_rate(here, rate.raised_by(here.rate)),
-            Function::Dec => self.enter_rate(here, rate.lowered_by(here.rate)),
-            Function::Stp => self.stopped(),
-            Function::Jmp(n) => self.to_phase(n),
-            Function::Lop(n) => self.pass_loop(n),
-            Function::Lps => self.start_loop(),
-            Function::Lpe => self.end_loop(),
-            Function::Pas(_) => self.enter_pause(function.pause_ticks()),
-            Function::Tenths(_) => self.enter_pause(function.pause_ticks()),
-            Function::If(n) => self.jump_if(n),
-            Function::Evn(n) => self.arm_trap(n),
-            Function::Evr => self.clear_trap(),
-            Function::Bep => self.to_next(),
-            Function::Out(level) => self.set_output(level),
-        }
+        let current = run.rate;
+        let rate = match function {
+            Function::Rat => Rate::Current(unit, here.rate),
+            Function::Inc => current.raised_by(here.rate),
+            Function::Dec => current.lowered_by(here.rate),
+            Function::Stp => return self.stopped(),
+            Function::Jmp(n) => return self.to_phase(n),
+            Function::Lop(n) => return self.pass_loop(n),
+            Function::Lps => return self.start_loop(),
+            Function::Lpe => return self.end_loop(),
+            Function::Pas(_) => return self.enter_pause(function.pause_ticks()),
+            Function::Tenths(_) => return self.enter_pause(function.pause_ticks()),
+            Function::If(n) => return self.jump_if(n),
+            Function::Evn(n) => return self.arm_trap(n),
+            Function::Evr => return self.clear_trap(),
+            Function::Bep => return self.to_next(),
+            Function::Out(level) => return self.set_output(level),
+        };
+        self.enter_rate(here, rate)
     }
 }
 

@@ -95,7 +95,7 @@ impl Core {
     {
         match rate {
             Rate::NoRate => self.silent(),
-            Rate::Current(r, unit) => self.give_steps(here, visit, drive::hourly_rate(r, unit)),
+            Rate::Current(unit, r) => self.give_steps(here, visit, drive::hourly_rate(r, unit)),
         }
     }
 

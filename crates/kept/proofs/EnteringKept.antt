@@ -51,7 +51,7 @@ module _ (phases : ℕ) (look : ℕ → Phase) (table : Table phases look) (s : 
       → fits phases h ≡ true
       → Kept phases look (enterBy s (look (s .run .place .current)) h)
   kept-enter-by f.Rat e d =
-      kept-rate phases look table s g (Current (look (s .run .place .current) .rate) (look (s .run .place .current) .unit))
+      kept-rate phases look table s g (Current (look (s .run .place .current) .unit) (look (s .run .place .current) .rate))
       (writable-most _ (rate-here phases look table s g)) (not-past f.Rat e refl) (ap pumps e)
   kept-enter-by f.Inc e d =
       kept-rate phases look table s g (raised (s .run .rate) (look (s .run .place .current) .rate)) (raised-most (s .run .rate) _)

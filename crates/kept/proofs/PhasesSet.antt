@@ -66,11 +66,11 @@ pub work-retuned :
     (d : ℕ) (p : Phase) (rate : Rate) (x : ℕ) (unit : RateUnit) (w : Work)
     → usable d x unit ≡ true
     → soundWork d p rate w ≡ true
-    → soundWork d p (Current x unit) w ≡ true
+    → soundWork d p (Current unit x) w ≡ true
 unfolding soundVisit
 work-retuned d p rate x unit Entering u e = e
 work-retuned d p rate x unit (Visiting v) u e =
     let t = each (visitTests d p rate v) e in
-    all-of (visitTests d p (Current x unit) v) (t .0, (t .1 .0, (t .1 .1 .0, (u, (t .1 .1 .1 .1 .0, tt)))))
+    all-of (visitTests d p (Current unit x) v) (t .0, (t .1 .0, (t .1 .1 .0, (u, (t .1 .1 .1 .1 .0, tt)))))
 work-retuned d p rate x unit (Pausing left) u e = e
 work-retuned d p rate x unit Waiting u e = e

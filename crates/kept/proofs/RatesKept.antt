@@ -36,15 +36,15 @@ writable-most x e = writable-grid x e .bounded
 
 pub raised-most : (rate : Rate) (x : ℕ) → ratio (raised rate x) ≤ mostRate
 raised-most NoRate x = omega arith
-raised-most (Current r unit) x = go (leb (r + x) mostRate) refl
+raised-most (Current unit r) x = go (leb (r + x) mostRate) refl
   where
-    go : (t : Bool) → leb (r + x) mostRate ≡ t → ratio (if t then Current (r + x) unit else NoRate) ≤ mostRate
+    go : (t : Bool) → leb (r + x) mostRate ≡ t → ratio (if t then Current unit (r + x) else NoRate) ≤ mostRate
     go true e = leb-true _ _ e
     go false e = omega arith
 
 pub lowered-most : (rate : Rate) (x : ℕ) → ratio rate ≤ mostRate → ratio (lowered rate x) ≤ mostRate
 lowered-most NoRate x h = omega arith
-lowered-most (Current r unit) x h = omega arith
+lowered-most (Current unit r) x h = omega arith
 
 -- a diameter in its range gives a threshold
 pub threshold-above : (d : ℕ) → diameter d ≡ true → 0 < threshold d
@@ -89,16 +89,16 @@ module _ (phases : ℕ) (look : ℕ → Phase) (table : Table phases look) (s : 
       → Kept phases look (enterRate s (look (s .run .place .current)) rate)
   unfolding enterRate
   kept-rate NoRate h c k = kept-alarmed phases look table s g Program
-  kept-rate (Current r unit) h c k = go (usable (s .diameter) r unit) refl
+  kept-rate (Current unit r) h c k = go (usable (s .diameter) r unit) refl
     where
       at-rate : Core
-      at-rate = withRun s (withRate (s .run) (Current r unit))
+      at-rate = withRun s (withRate (s .run) (Current unit r))
 
       go :
           (t : Bool)
           → usable (s .diameter) r unit ≡ t
           → Kept phases look (if t then begunVisit at-rate (look (s .run .place .current)) else alarmed s Program)
-      go true e = kept-begun phases look table at-rate (going-rate phases s g (Current r unit) h) c k e
+      go true e = kept-begun phases look table at-rate (going-rate phases s g (Current unit r) h) c k e
       go false e = kept-alarmed phases look table s g Program
 
   -- PAS: its full number of ticks, or the trigger wait

@@ -86,24 +86,24 @@ module _ (phases : ℕ) (look : ℕ → Phase) (table : Table phases look) (s : 
       → writable x ≡ true
       → usable (s .diameter) x unit ≡ true
       → s .run .mode ≡ Running
-      → Kept phases look (withRun s (withRate (s .run) (Current x unit)))
+      → Kept phases look (withRun s (withRate (s .run) (Current unit x)))
   retuned-kept x unit w u m =
       let here = look (s .run .place .current) in
-      going-sound phases (withRun s (withRate (s .run) (Current x unit))) here
-      (going-rate phases s (going-of phases s here kept m) (Current x unit) (writable-grid x w .bounded))
+      going-sound phases (withRun s (withRate (s .run) (Current unit x))) here
+      (going-rate phases s (going-of phases s here kept m) (Current unit x) (writable-grid x w .bounded))
       (work-retuned (s .diameter) here (s .run .rate) x unit (s .run .place .work) u (work-of phases s here kept))
 
   retuned-well :
       (x : ℕ) → writable x ≡ true → s .run .mode ≡ Running → (rate : Rate) → Well phases look s (retuned s (look (inHand s)) x rate)
   retuned-well x w m NoRate = same s kept reply.NotApplicable
-  retuned-well x w m (Current r unit) = go (usable (s .diameter) x unit) refl
+  retuned-well x w m (Current unit r) = go (usable (s .diameter) x unit) refl
     where
       go :
           (t : Bool)
           → usable (s .diameter) x unit ≡ t
           → Well phases look s
           (if t
-          then answered (withRun s (withRate (s .run) (Current x unit))) (look (inHand s)) reply.Status
+          then answered (withRun s (withRate (s .run) (Current unit x))) (look (inHand s)) reply.Status
           else answered s (look (inHand s)) reply.OutOfRange)
       go true e = same _ (retuned-kept x unit w e m) reply.Status
       go false e = same s kept reply.OutOfRange

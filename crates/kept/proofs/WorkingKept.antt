@@ -141,7 +141,7 @@ module _ (phases : ℕ) (look : ℕ → Phase) (table : Table phases look) (s : 
       → Kept phases look (workVisit s (look (s .run .place .current)) v rate .core)
   unfolding workVisit
   kept-visit v NoRate k w = k
-  kept-visit v (Current r unit) k w = kept-steps v (hourly r unit) w
+  kept-visit v (Current unit r) k w = kept-steps v (hourly r unit) w
 
   -- a timed pause
   pub kept-pause :

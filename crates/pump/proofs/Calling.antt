@@ -10,6 +10,8 @@ use lib.ListN.{length}
 use borrow.Author.Tests.{lt-ltb, le-ltb, eq-eqb, ne-eqb}
 use Rattle.answer.specs.Answers.{room}
 use Rattle.engine.specs.Edges.{pinTwo, pinFour, pinSix}
+use Rattle.base.specs.If.{if_then_else_}
+use Rattle.engine.specs.Runs.{silent}
 use Rattle.engine.specs.Sound.{Ready}
 use Rattle.engine.specs.Ticks.{tickOf}
 use Rattle.engine.specs.declared.state.Core.{Core}
@@ -20,10 +22,12 @@ use Rattle.line.specs.declared.lines.Arrived.{Arrived}
 use Rattle.program.specs.declared.phases.Phase.{Phase}
 use Rattle.pump.specs.Calls as calls
 use Rattle.pump.specs.Calls.{tickCall, edged, levelled, pinCall, received, receivedBuffer, byteReport, byteBuffer}
-use Rattle.pump.specs.Holder.{phaseCount, phaseAt, withCore, withLine, soundPump}
+use Rattle.pump.specs.Holder.{phaseCount, phaseAt, withCore, withLine, soundPump, checkedOf}
 use Rattle.pump.specs.Lines.{Handy, afterLine, reportOf, bufferOf}
-use Rattle.pump.specs.Reports.{refused, reported, movedBy}
+use Rattle.pump.specs.Reports.{refused, reported, unlessSound, movedBy}
+use Rattle.pump.specs.declared.checks.Checked.{Checked}
 use Rattle.pump.specs.declared.holder.Pump.{Pump}
+use Rattle.pump.specs.declared.reports.Refusal.{Refusal}
 use Rattle.pump.specs.declared.reports.Refusal.the-variants.{ShortBuffer, NoPin, NoLevel, Unsound}
 use Rattle.pump.specs.declared.reports.Report.{Report}
 use Rattle.pump.proofs.Phases.{pump-core, pump-ready}
@@ -38,6 +42,29 @@ handy-of p e =
           omega arith;
     }
 
+-- ---- the tick: of a sound pump by the rules, of any other none
+tick-by :
+    (p : Pump) (sound : Bool)
+    → sound ≡ soundPump p
+    → movedBy p (if sound then tickOf (p .core) (phaseAt (p .phases) (p .core .run .place .current)) else silent (p .core)) (unlessSound sound)
+    ≡ tickCall p
+unfolding tickCall
+tick-by p true s = sym (simp (sym s))
+tick-by p false s = sym (simp (sym s))
+
+module _ (p : Pump) (k : Checked) (c : k ≡ checkedOf p) where
+  pub ready-checked : k .sound ≡ true → Ready phaseCount (p .core) (k .here)
+  ready-checked e = rw (ap (λ x. x .here) c) (pump-ready p (sym (ap (λ x. x .sound) c) ∙ e))
+
+  pub tick-checked :
+      (m : Moved) (refusal : Refusal) (r : Report)
+      → m ≡ (if k .sound then tickOf (p .core) (k .here) else silent (p .core))
+      → refusal ≡ unlessSound (k .sound)
+      → r ≡ movedBy p m refusal
+      → r ≡ tickCall p
+  tick-checked m refusal r a b q =
+      q ∙ rw (a, b, ap (λ x. x .here) c) (tick-by p (k .sound) (ap (λ x. x .sound) c))
+
 module _ (p : Pump) (sound : Bool) (s : sound ≡ soundPump p) where
   module _ (e : sound ≡ true) where
     pub handy-now : Handy p
@@ -45,17 +72,6 @@ module _ (p : Pump) (sound : Bool) (s : sound ≡ soundPump p) where
 
     pub ready-now : (here : Phase) → here ≡ phaseAt (p .phases) (p .core .run .place .current) → Ready phaseCount (p .core) here
     ready-now here h = rw h (pump-ready p (sym s ∙ e))
-
-    -- ---- the tick
-    pub ticks :
-        (here : Phase) (m : Moved) (r : Report)
-        → here ≡ phaseAt (p .phases) (p .core .run .place .current)
-        → m ≡ tickOf (p .core) here
-        → r ≡ movedBy p m
-        → r ≡ tickCall p
-    unfolding tickCall
-    ticks here m r h k q =
-        q ∙ ap (movedBy p) (k ∙ ap (tickOf (p .core)) h) ∙ sym (simp (sym s ∙ e))
 
     -- ---- the pin
     module _ (pin level : ℕ) (r : Report) where
@@ -96,10 +112,6 @@ module _ (p : Pump) (sound : Bool) (s : sound ≡ soundPump p) where
 
   -- ---- a state that is not sound
   module _ (e : sound ≡ false) (r : Report) (q : r ≡ refused p Unsound) where
-    pub tick-unsound : r ≡ tickCall p
-    unfolding tickCall
-    tick-unsound = q ∙ sym (simp (sym s ∙ e))
-
     pub pin-unsound : (pin level : ℕ) → r ≡ pinCall p pin level
     unfolding pinCall
     pin-unsound pin level = q ∙ sym (simp (sym s ∙ e))

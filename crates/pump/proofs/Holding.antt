@@ -15,11 +15,12 @@ use Rattle.line.specs.Lines.{soundLine, emptyLine}
 use Rattle.line.specs.declared.lines.Line.{Line}
 use Rattle.program.specs.Phases.{powerUp}
 use Rattle.program.specs.declared.phases.Phase.{Phase}
-use Rattle.pump.specs.Holder.{phaseCount, freshPump, phaseAt, withCore, withLine, inHand, soundPhases, soundPump}
+use Rattle.pump.specs.Holder.{phaseCount, freshPump, phaseAt, withCore, withLine, inHand, soundPhases, soundPump, checkedOf}
 use Rattle.pump.specs.Lines.{Handy, resetPump}
 use Rattle.pump.specs.Reports.{movedBy}
+use Rattle.pump.specs.declared.checks.Checked.{Checked}
 use Rattle.pump.specs.declared.holder.Pump.{Pump}
-use Rattle.pump.specs.declared.reports.Refusal.the-variants.{Accepted}
+use Rattle.pump.specs.declared.reports.Refusal.{Refusal}
 
 -- ---- the whole tested
 module _ (p : Pump) (b : Bool) (k : b ≡ soundPhases (p .phases)) where
@@ -36,6 +37,13 @@ module _ (p : Pump) (b : Bool) (k : b ≡ soundPhases (p .phases)) where
   pub phase-unsound : b ≡ false → false ≡ soundPump p
   unfolding soundPump
   phase-unsound e = simp (sym k ∙ e)
+
+pub checked-as :
+    (p : Pump) (k : Checked)
+    → k .here ≡ phaseAt (p .phases) (p .core .run .place .current)
+    → k .sound ≡ soundPump p
+    → k ≡ checkedOf p
+checked-as p k a b = λ i. record { here = a i; sound = b i }
 
 -- ---- the phase in hand
 module _ (p : Pump) (b : Bool) (k : b ≡ operating (p .core)) where
@@ -70,7 +78,7 @@ counted true = refl
 counted false = refl
 
 pub moved-as :
-    (p held : Pump) (m : Moved)
+    (p held : Pump) (m : Moved) (refusal : Refusal)
     → held ≡ withCore p (m .core)
     → record {
       pump = held;
@@ -78,11 +86,11 @@ pub moved-as :
       infused = m .infused;
       withdrawn = m .withdrawn;
       beeps = mir-val.boolByte (m .beep);
-      refusal = Accepted;
+      refusal = refusal;
       output = m .core .pins .output;
     }
-    ≡ movedBy p m
-moved-as p held m h = rw (h, counted (m .beep))
+    ≡ movedBy p m refusal
+moved-as p held m refusal h = rw (h, counted (m .beep))
 
 -- ---- power-up
 pub fresh-as :

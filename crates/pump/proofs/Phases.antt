@@ -58,6 +58,17 @@ phase-past ps (suc n) ne h =
     let e : suc n - 1 ≡ n = omega arith in
     sym (getD-past ps n stopPhase (rw e at h))
 
+-- a phase that is read from the table, or one that stops where there is none
+module _ (ps : List Phase) (n : ℕ) (here : Phase) (full : length ps ≡ 41) where
+  pub phase-read : (d : Phase) → 1 ≤ n → n ≤ 41 → here ≡ getD ps (n - 1) d → here ≡ phaseAt ps n
+  phase-read d a b e = e ∙ phase-within ps n d (λ z. absurd (omega arith)) (omega (arith, full))
+
+  pub phase-over : 41 < n → here ≡ powerUp 0 → here ≡ phaseAt ps n
+  phase-over a e = e ∙ power-up-stops ∙ phase-past ps n (λ z. absurd (omega arith)) (omega (arith, full))
+
+  pub phase-under : n < 1 → here ≡ powerUp 0 → here ≡ phaseAt ps n
+  phase-under a e = phase-none ps n here e (omega arith)
+
 -- ---- another phase of a number
 above-zero : (n : ℕ) → (n ≡ 0 → ⊥) → 1 ≤ n
 above-zero zero k = absurd (k refl)

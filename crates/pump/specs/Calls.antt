@@ -14,12 +14,12 @@ use Rattle.pump.specs.Holder.{phaseAt, withCore, withLine, soundPump}
 use Rattle.pump.specs.Lines.{afterLine, reportOf, bufferOf}
 use Rattle.pump.specs.Reports.{refused, reported, movedBy}
 use Rattle.pump.specs.declared.holder.Pump.{Pump}
-use Rattle.pump.specs.declared.reports.Refusal.the-variants.{ShortBuffer, NoPin, NoLevel, Unsound}
+use Rattle.pump.specs.declared.reports.Refusal.the-variants.{Accepted, ShortBuffer, NoPin, NoLevel, Unsound}
 use Rattle.pump.specs.declared.reports.Report.{Report}
 
 -- ---- a tick: 4 where the state is not sound
 abbrev pub ticked : Pump → Report
-ticked p = movedBy p (tickOf (p .core) (phaseAt (p .phases) (p .core .run .place .current)))
+ticked p = movedBy p (tickOf (p .core) (phaseAt (p .phases) (p .core .run .place .current))) Accepted
 
 unfoldable pub tickCall : Pump → Report
 tickCall p = if soundPump p then ticked p else refused p Unsound

@@ -14,6 +14,7 @@ use Rattle.program.specs.Functions.{isPhase}
 use Rattle.program.specs.Phases.{idle, powerUp, soundPhase}
 use Rattle.program.specs.declared.functions.Function.the-variants as f
 use Rattle.program.specs.declared.phases.Phase.{Phase}
+use Rattle.pump.specs.declared.checks.Checked.{Checked}
 use Rattle.pump.specs.declared.holder.Pump.{Pump}
 
 -- how many phases there are
@@ -56,3 +57,7 @@ unfoldable pub soundPump : Pump → Bool
 soundPump p =
     soundPhases (p .phases)
     && (soundCore phaseCount (p .core) (phaseAt (p .phases) (p .core .run .place .current)) && soundLine (p .line))
+
+-- with the current phase
+abbrev pub checkedOf : Pump → Checked
+checkedOf p = record { here = phaseAt (p .phases) (p .core .run .place .current); sound = soundPump p }

@@ -1,5 +1,6 @@
 -- What every call hands back, and the refusals with their numbers.   (01, Calls)
 use Prim.Native.Nat.{ℕ}
+use mathlib.Core.Bool.{Bool}
 use Rattle.base.specs.If.{if_then_else_}
 use Rattle.engine.specs.declared.state.Moved.{Moved}
 use Rattle.pump.specs.Holder.{withCore}
@@ -16,6 +17,10 @@ numberOf NoPin = 2
 numberOf NoLevel = 3
 numberOf Unsound = 4
 
+-- the refusal of a call that asks for a sound state and for nothing else
+abbrev pub unlessSound : Bool → Refusal
+unlessSound sound = if sound then Accepted else Unsound
+
 -- the given state, no step, no beep, no answer
 abbrev pub refused : Pump → Refusal → Report
 refused p refusal =
@@ -26,15 +31,15 @@ abbrev pub reported : Pump → ℕ → Report
 reported p n =
     record { pump = p; length = n; infused = 0; withdrawn = 0; beeps = 0; refusal = Accepted; output = p .core .pins .output }
 
--- what a tick did
-abbrev pub movedBy : Pump → Moved → Report
-movedBy p m =
+-- what a tick did, refused or not
+abbrev pub movedBy : Pump → Moved → Refusal → Report
+movedBy p m refusal =
     record {
       pump = withCore p (m .core);
       length = 0;
       infused = m .infused;
       withdrawn = m .withdrawn;
       beeps = if m .beep then 1 else 0;
-      refusal = Accepted;
+      refusal = refusal;
       output = m .core .pins .output;
     }

@@ -1,22 +1,29 @@
 // The calls: a byte, a pin level, a tick. Each tests the whole state first; no call has a precondition.
+ghost use mathlib.Core.Bool.{true};
 ghost use mathlib.Core.Path.{_≡_};
+ghost use Rattle.base.specs.If.{if_then_else_};
+ghost use Rattle.engine.specs.Runs.{silent};
+ghost use Rattle.engine.specs.Sound.{Ready};
+ghost use Rattle.engine.specs.Ticks.{tickOf};
 ghost use Rattle.pump.specs.Calls.{tickCall, pinCall, levelled, edged, byteReport, byteBuffer, received, receivedBuffer};
 ghost use Rattle.pump.specs.Lines.{Handy};
 use crate::holder::Pump;
 use crate::reports::Refusal;
 use crate::reports::Report;
+use engine::Core;
+use engine::Moved;
+use program::Phase;
 
 impl Pump {
-    // One millisecond.
+    // One millisecond. The report is made in one place, also where the state is not sound: two places would cost a copy of the pump.
     pub fn tick(self) -> Report
         ensures { λ r. ⌜ r ≡ tickCall self ⌝ }
     {
-        if self.sound() {
-            let core = self.core;
-            let here = self.phase_at(core.run.place.current);
-            return self.moved_by(core.tick(here, 41));
-        }
-        self.refused(Refusal::Unsound)
+        let checked = self.checked();
+        let core = self.core;
+        let here = checked.here;
+        let sound = checked.sound;
+        self.moved_by(ticked(core, here, sound), Refusal::unless(sound))
     }
 
     // A level of pin 2, 4 or 6: 0 is low, 1 is high.
@@ -82,4 +89,15 @@ impl Pump {
         }
         held.reported(0)
     }
+}
+
+// A tick of a sound pump; of any other, one that leaves all as it is.
+fn ticked(core: Core, here: Phase, sound: bool) -> Moved
+    requires { ⌜ (sound ≡ true → Ready 41 core here) ⌝ }
+    ensures { λ r. ⌜ r ≡ (if sound then tickOf core here else silent core) ⌝ }
+{
+    if sound {
+        return core.tick(here, Pump::PHASES);
+    }
+    core.silent()
 }

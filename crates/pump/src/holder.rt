@@ -1,10 +1,8 @@
-// The pump's state, its constants, the phase of a number, and when the whole is sound.
+// The pump's state, its constants, and the phase of a number.
 ghost use mathlib.Core.Path.{_≡_};
-ghost use Prim.Native.Nat.{_≤_};
-ghost use Rattle.pump.specs.Holder.{freshPump, phaseAt, withPhase, withCore, withLine, inHand, soundPhases, soundPump};
+ghost use Rattle.pump.specs.Holder.{freshPump, phaseAt, withPhase, withCore, withLine, inHand};
 use engine::Core;
 use line::Line;
-use program::Function;
 use program::Phase;
 
 pub struct Pump {
@@ -88,34 +86,5 @@ impl Pump {
             return core.run.place.current;
         }
         core.chosen
-    }
-
-    // Whether every phase is sound.
-    fn phases_sound(self) -> bool
-        ensures { λ r. ⌜ r ≡ soundPhases (self .phases) ⌝ }
-    {
-        let mut i: usize = 0;
-        while i < 41 {
-            let p = self.phases[i];
-            if p.sound(41) {
-                i += 1;
-            } else {
-                return false;
-            }
-        }
-        true
-    }
-
-    // Document 01's sentence on a sound state, whole.
-    pub fn sound(self) -> bool
-        ensures { λ r. ⌜ r ≡ soundPump self ⌝ }
-    {
-        if self.phases_sound() {
-            let core = self.core;
-            let line = self.line;
-            let here = self.phase_at(core.run.place.current);
-            return core.sound(here, 41) & line.sound();
-        }
-        false
     }
 }

@@ -73,7 +73,7 @@ impl Pump {
         let here = self.phase_at(n);
         let next = self.phase_at(n + 1);
         let function = next.function;
-        core.obey(here, function, 41, command)
+        core.obey(here, function, Pump::PHASES, command)
     }
 
     // *RESET: the power-up state, but no alarm, and the pins as they are.

@@ -1,6 +1,6 @@
 // What every call hands back, and the refusals.
 ghost use mathlib.Core.Path.{_≡_};
-ghost use Rattle.pump.specs.Reports.{numberOf, refused, reported, movedBy};
+ghost use Rattle.pump.specs.Reports.{numberOf, refused, reported, unlessSound, movedBy};
 use crate::holder::Pump;
 use engine::Moved;
 
@@ -13,6 +13,16 @@ pub enum Refusal {
 }
 
 impl Refusal {
+    // That of a call that asks for a sound state and for nothing else.
+    pub fn unless(sound: bool) -> Refusal
+        ensures { λ r. ⌜ r ≡ unlessSound sound ⌝ }
+    {
+        if sound {
+            return Refusal::Accepted;
+        }
+        Refusal::Unsound
+    }
+
     // The number in document 01's table; 0 where nothing was refused.
     pub fn number(self) -> u8
         ensures { λ r. ⌜ r ≡ numberOf self ⌝ }
@@ -71,9 +81,9 @@ impl Pump {
         }
     }
 
-    // A tick.
-    pub fn moved_by(self, moved: Moved) -> Report
-        ensures { λ r. ⌜ r ≡ movedBy self moved ⌝ }
+    // A tick, refused or not.
+    pub fn moved_by(self, moved: Moved, refusal: Refusal) -> Report
+        ensures { λ r. ⌜ r ≡ movedBy self moved refusal ⌝ }
     {
         let core = moved.core;
         let output = core.pins.output;
@@ -83,7 +93,7 @@ impl Pump {
             infused: moved.infused as u32,
             withdrawn: moved.withdrawn as u32,
             beeps: moved.beep as u32,
-            refusal: Refusal::Accepted,
+            refusal: refusal,
             output: output,
         }
     }

@@ -116,11 +116,11 @@ wait-phase (f.Out n) h = false-true h
 -- ---- a usable rate
 pub usable-rate : (d : ℕ) (rate : Rate) → usableRate d rate ≡ true → Usable d rate
 usable-rate d NoRate h = false-true h
-usable-rate d (Current r unit) h = usable-iff d r unit .0 h
+usable-rate d (Current unit r) h = usable-iff d r unit .0 h
 
 pub usable-rate-test : (d : ℕ) (rate : Rate) → Usable d rate → usableRate d rate ≡ true
 usable-rate-test d NoRate u = absurd u
-usable-rate-test d (Current r unit) u = usable-iff d r unit .1 u
+usable-rate-test d (Current unit r) u = usable-iff d r unit .1 u
 
 -- ---- what a test that failed tells of its parts
 or-left : (t u : Bool) → (t || u) ≡ false → t ≡ false

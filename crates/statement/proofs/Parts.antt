@@ -105,7 +105,7 @@ no-trap-of (Armed n) h = false-true h
 
 no-rate-of : (r : Rate) → isNoRate r ≡ true → r ≡ NoRate
 no-rate-of NoRate h = refl
-no-rate-of (Current r unit) h = false-true h
+no-rate-of (Current unit r) h = false-true h
 
 no-alarm-of : (a : Pending) → isNoAlarm a ≡ true → a ≡ NoAlarm
 no-alarm-of NoAlarm h = refl

@@ -90,7 +90,9 @@ module _ (p : Pump) (e : soundPump p ≡ true) where
         none-counted =
             λ z.
             either (ltb (v .given) (v .target)) (eqb (hereOf p .volume) 0 && eqb (v .given) 0)
-            (λ k. let none = no-target (p .core .diameter) (hereOf p .volume) z in absurd (omega (arith, ltb-true _ _ k, aimed-at t ∙ none)))
+            (λ k.
+            let none = aimed-at t ∙ no-target (p .core .diameter) (hereOf p .volume) z in
+            absurd (omega (arith, none, ltb-true (v .given) (v .target) k)))
             (λ k. eqb-true (v .given) 0 (and-right (eqb (hereOf p .volume) 0) (eqb (v .given) 0) k))
             (t .1 .1 .0);
         usable = usable-rate (p .core .diameter) (p .core .run .rate) (t .1 .1 .1 .0);

@@ -96,7 +96,7 @@ hereOf p = phaseAt (p .phases) (p .core .run .place .current)
 -- above 0, and at most four thresholds
 abbrev pub Usable : ℕ → Rate → Type 0
 Usable d NoRate = ⊥
-Usable d (Current r unit) = (0 < r) × (hourly r unit ≤ 4 * threshold d)
+Usable d (Current unit r) = (0 < r) × (hourly r unit ≤ 4 * threshold d)
 
 pub record VisitFacts (p : Pump) (v : Visit) : Type 0 where
   pub store-below : v .store < threshold (p .core .diameter)

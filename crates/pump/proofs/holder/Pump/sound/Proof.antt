@@ -1,35 +1,16 @@
--- `Pump::sound` meets its contract: the phases, then the core with its current phase, then the line.
+-- `Pump::sound` meets its contract.
 -- Assumes nothing.
-use Rattle.pump.proofs.Holding.{whole-sound, phase-unsound}
+use mathlib.Core.Path.{ap}
 use borrow.Author.Needs.{needs}
+use Rattle.pump.specs.declared.checks.Checked.{Checked}
 use Rattle.pump.proofs.holder.Pump.sound.Statement.{statement}
 use Rattle.pump.proofs.holder.Pump.sound.Tie as tie
 
-phases-sound-requires : tie.Need-phases-sound-requires
-phases-sound-requires c κs = search needs
-
-phase-at-requires : tie.Need-phase-at-requires
-phase-at-requires c κs = search needs
-
-sound-requires : tie.Need-sound-requires
-sound-requires c κs = search needs
-
-sound-requires-2 : tie.Need-sound-requires-2
-sound-requires-2 c κs = search needs
+checked-requires : tie.Need-checked-requires
+checked-requires c κs = search needs
 
 returns : tie.Need-returns
-returns c = search (whole-sound, phase-unsound)
-
-returns-2 : tie.Need-returns-2
-returns-2 c = search (whole-sound, phase-unsound)
+returns c = ap (λ (k : Checked). k .sound) (c .checked .ensures)
 
 pub sound-spec : {M : Type 1} → statement M
-sound-spec =
-    tie.close
-    (tie.spec
-    phases-sound-requires
-    phase-at-requires
-    sound-requires
-    sound-requires-2
-    returns
-    returns-2)
+sound-spec = tie.close (tie.spec checked-requires returns)

@@ -1,39 +1,25 @@
 -- `Pump::tick` meets its contract, whatever state it is given.
 -- Assumes nothing.
-use Rattle.pump.proofs.Calling.{ready-now, ticks, tick-unsound}
+use Rattle.pump.proofs.Calling.{ready-checked, tick-checked}
 use borrow.Author.Needs.{needs}
 use Rattle.pump.proofs.holder.Pump.tick.Statement.{statement}
 use Rattle.pump.proofs.holder.Pump.tick.Tie as tie
 
-sound-requires : tie.Need-sound-requires
-sound-requires c κs = search needs
+checked-requires : tie.Need-checked-requires
+checked-requires c κs = search needs
 
-phase-at-requires : tie.Need-phase-at-requires
-phase-at-requires c κs = search needs
+ticked-requires : tie.Need-ticked-requires
+ticked-requires c κs = search ready-checked
 
-tick-requires : tie.Need-tick-requires
-tick-requires c κs = search ready-now
+unless-requires : tie.Need-unless-requires
+unless-requires c κs = search needs
 
 moved-by-requires : tie.Need-moved-by-requires
 moved-by-requires c κs = search needs
 
 returns : tie.Need-returns
-returns c = search (ticks, tick-unsound)
-
-refused-requires : tie.Need-refused-requires
-refused-requires c κs = search needs
-
-returns-2 : tie.Need-returns-2
-returns-2 c = search (ticks, tick-unsound)
+returns c = search tick-checked
 
 pub tick-spec : {M : Type 1} → statement M
 tick-spec =
-    tie.close
-    (tie.spec
-    sound-requires
-    phase-at-requires
-    tick-requires
-    moved-by-requires
-    returns
-    refused-requires
-    returns-2)
+    tie.close (tie.spec checked-requires ticked-requires unless-requires moved-by-requires returns)

@@ -1,0 +1,52 @@
+-- `shown` ends: there are six calls.
+-- Assumes nothing.
+use native.Mathlib.Omega.{arith}
+use Prim.Native.Nat.{_≤_, _-_}
+use borrow.Author.Needs.{needs}
+use Rattle.unsound.proofs.show.shown.Statement.{statement}
+use Rattle.unsound.proofs.show.shown.Tie as tie
+
+abbrev Inv-loop : tie.InvT-loop
+Inv-loop pump all₀ call₀ all call = call ≤ 6
+
+abbrev μ-loop : tie.MeasureT-loop
+μ-loop pump all₀ call₀ all call = 6 - call
+
+loop-holds : tie.Need-loop-holds Inv-loop μ-loop
+loop-holds c = omega arith
+
+watched-requires : tie.Need-watched-requires Inv-loop μ-loop
+watched-requires c κs = search needs
+
+add-call : tie.Need-add-call Inv-loop μ-loop
+add-call c = omega arith
+
+number-requires : tie.Need-number-requires Inv-loop μ-loop
+number-requires c κs = search needs
+
+both-requires : tie.Need-both-requires Inv-loop μ-loop
+both-requires c κs = search needs
+
+loop-less : tie.Need-loop-less Inv-loop μ-loop
+loop-less c = omega arith
+
+loop-again : tie.Need-loop-again Inv-loop μ-loop
+loop-again c = omega arith
+
+returns : tie.Need-returns Inv-loop μ-loop
+returns c = search needs
+
+pub shown-spec : {M : Type 1} → statement M
+shown-spec =
+    tie.close
+    (tie.spec
+    Inv-loop
+    μ-loop
+    loop-holds
+    watched-requires
+    add-call
+    number-requires
+    both-requires
+    loop-less
+    loop-again
+    returns)

@@ -1,0 +1,99 @@
+//! Ticks of the plain engine against the clock, from the same five tables as the Rattle crate `pace`.
+
+use twin::{Direction, Function, Mode, Phase, Pump, RateUnit};
+
+/// The steps infused by that many ticks; all tables infuse.
+#[no_mangle]
+pub extern "C" fn twin_ticks(ticks: u32, table: u32) -> u64 {
+    let mut pump = running(table);
+    let mut steps = 0;
+    for _ in 0..ticks {
+        steps += u64::from(pump.tick().infused);
+    }
+    steps
+}
+
+/// A pump just started on a table.
+fn running(table: u32) -> Pump {
+    let mut pump = Pump::new();
+    for (n, phase) in (1..).zip(&mut pump.program.phases) {
+        *phase = phase_of(table, n);
+    }
+    pump.alarm = None;
+    pump.mode = Mode::Operating;
+    pump
+}
+
+fn phase_of(table: u32, n: u8) -> Phase {
+    match table {
+        0 => continuous(n),
+        1 => large(n),
+        2 => pausing(n),
+        3 => mixed(n),
+        _ => visits(n),
+    }
+}
+
+fn continuous(n: u8) -> Phase {
+    match n {
+        1 => rated(Function::Rate, 200_000, 0),
+        _ => bare(Function::Stop),
+    }
+}
+
+fn large(n: u8) -> Phase {
+    let more = u32::from(n) * 1000;
+    Phase { unit: RateUnit::MicrolitreMinute, ..rated(Function::Rate, 4_000_000 + more, 9_000_000 + more) }
+}
+
+fn pausing(n: u8) -> Phase {
+    match n {
+        1 => bare(Function::Pause(99)),
+        2 => bare(Function::Jump(1)),
+        _ => bare(Function::Stop),
+    }
+}
+
+fn mixed(n: u8) -> Phase {
+    let x = [1_234_000, 5_000, 50_000, 200_000][usize::from(n % 4)];
+    match n {
+        1 => rated(Function::Rate, 200_000, 0),
+        _ => rated(FUNCTIONS[usize::from(n % 15)], x, x),
+    }
+}
+
+const FUNCTIONS: [Function; 15] = [
+    Function::Output(1),
+    Function::Rate,
+    Function::Increment,
+    Function::Decrement,
+    Function::Stop,
+    Function::Jump(7),
+    Function::Loop(9),
+    Function::LoopStart,
+    Function::LoopEndless,
+    Function::Pause(50),
+    Function::PauseTenths(5),
+    Function::If(3),
+    Function::EventTrap(4),
+    Function::EventReset,
+    Function::Beep,
+];
+
+fn visits(n: u8) -> Phase {
+    match n {
+        1 => bare(Function::LoopStart),
+        2 => rated(Function::Rate, 200_000, 1_000),
+        3 => bare(Function::Loop(99)),
+        4 => bare(Function::Jump(1)),
+        _ => bare(Function::Stop),
+    }
+}
+
+fn rated(function: Function, rate: u32, volume: u32) -> Phase {
+    Phase { function, rate, unit: RateUnit::MillilitreHour, volume, direction: Direction::Infuse }
+}
+
+fn bare(function: Function) -> Phase {
+    rated(function, 0, 0)
+}

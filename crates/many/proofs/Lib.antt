@@ -1,0 +1,2 @@
+-- What the run of many ticks knows.
+pub mod Running

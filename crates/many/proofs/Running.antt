@@ -1,0 +1,96 @@
+-- Ticks one after the other on the core alone: what the run knows after i of them.
+-- Assumes nothing.
+use Prim.Native.Nat.{ℕ, zero, suc, _+_, _*_, _≤_}
+use mathlib.Core.Path.{_≡_, refl, sym, ap, _∙_, subst}
+use mathlib.Core.Bool.{true, false}
+use native.Mathlib.Omega.{arith}
+use lib.ListN.{length}
+use Rattle.program.specs.declared.phases.Phase.{Phase}
+use Rattle.engine.specs.Sound.{Ready}
+use Rattle.engine.specs.Ticks.{tickOf}
+use Rattle.engine.specs.declared.state.Core.{Core}
+use Rattle.engine.specs.declared.state.Moved.{Moved}
+use Rattle.pump.specs.Calls as calls
+use Rattle.pump.specs.Calls.{tickCall}
+use Rattle.pump.specs.Holder.{phaseAt, withCore, soundPump}
+use Rattle.pump.specs.Reports.{refused, movedBy}
+use Rattle.pump.specs.declared.holder.Pump.{Pump}
+use Rattle.pump.specs.declared.reports.Refusal.the-variants.{Accepted, Unsound}
+use Rattle.pump.specs.declared.reports.Report.{Report}
+use Rattle.pump.proofs.Phases.{pump-ready}
+use Rattle.statement.proofs.Wholes.{tick-whole}
+use Rattle.many.specs.Ticking.{withTick, ticked}
+use Rattle.many.specs.declared.Ticked.{Ticked}
+
+-- i ticks from p gave this core and these sums; a tick gives at most 255 steps in a direction
+pub record Ran (p : Pump) (core : Core) (infused withdrawn i : ℕ) : Type 0 where
+  pub sound : soundPump (withCore p core) ≡ true
+  pub same : _≡_ {A = Ticked} (record { pump = withCore p core; infused = infused; withdrawn = withdrawn }) (ticked i p)
+  pub infused-few : infused ≤ i * 255
+  pub withdrawn-few : withdrawn ≤ i * 255
+
+pub ran-none : (p : Pump) → soundPump p ≡ true → Ran p (p .core) 0 0 0
+unfolding ticked
+ran-none p sound = record { sound = sound; same = refl; infused-few = omega arith; withdrawn-few = omega arith }
+
+sound-tick : (p : Pump) → soundPump p ≡ true → tickCall p ≡ calls.ticked p
+unfolding tickCall
+sound-tick p e = rw e refl
+
+module _ (p : Pump) (full : length (p .phases) ≡ 41) (core : Core) (a b i : ℕ) (ran : Ran p core a b i) (here : Phase)
+    (h : here ≡ phaseAt (p .phases) (core .run .place .current)) where
+  pub ready : Ready 41 core here
+  ready = rw h (pump-ready (withCore p core) (ran .sound))
+
+  called : (m : Moved) → m ≡ tickOf core here → tickCall (withCore p core) ≡ movedBy (withCore p core) m Accepted
+  called m k =
+      sound-tick (withCore p core) (ran .sound)
+      ∙ ap (λ (x : Moved). movedBy (withCore p core) x Accepted) (sym (k ∙ ap (tickOf core) h))
+
+  counted :
+      (m : Moved)
+      → m ≡ tickOf core here
+      → _≡_ {A = Ticked} (record { pump = withCore p (m .core); infused = a + m .infused; withdrawn = b + m .withdrawn }) (ticked (i + 1) p)
+  unfolding ticked
+  counted m k =
+      ap (withTick (record { pump = withCore p core; infused = a; withdrawn = b })) (sym (called m k))
+      ∙ ap (λ (t : Ticked). withTick t (tickCall (t .pump))) (ran .same)
+      ∙ ap (λ (n : ℕ). ticked n p) (one-more i)
+    where
+      one-more : (n : ℕ) → suc n ≡ n + 1
+      one-more n = omega arith
+
+  pub ran-more :
+      (m : Moved)
+      → m ≡ tickOf core here
+      → m .infused ≤ 255
+      → m .withdrawn ≤ 255
+      → Ran p (m .core) (a + m .infused) (b + m .withdrawn) (i + 1)
+  ran-more m k x y =
+      record {
+        sound =
+            subst (λ (r : Report). soundPump (r .pump) ≡ true) (called m k) (tick-whole (withCore p core) full (ran .sound));
+        same = counted m k;
+        infused-few = omega (arith, ran .infused-few);
+        withdrawn-few = omega (arith, ran .withdrawn-few);
+      }
+
+pub ran-all :
+    (p : Pump) (core : Core) (a b i n : ℕ)
+    → Ran p core a b i
+    → i ≤ n
+    → n ≤ i
+    → _≡_ {A = Ticked} (record { pump = withCore p core; infused = a; withdrawn = b }) (ticked n p)
+ran-all p core a b i n ran h k = let e : i ≡ n = omega arith in ran .same ∙ ap (λ (m : ℕ). ticked m p) e
+
+-- ---- a state that is not sound: every tick is refused
+still-tick : (p : Pump) → soundPump p ≡ false → tickCall p ≡ refused p Unsound
+unfolding tickCall
+still-tick p e = rw e refl
+
+pub ran-still : (p : Pump) (n : ℕ) → soundPump p ≡ false → _≡_ {A = Ticked} (record { pump = p; infused = 0; withdrawn = 0 }) (ticked n p)
+unfolding ticked
+ran-still p zero e = refl
+ran-still p (suc n) e =
+    ap (withTick (record { pump = p; infused = 0; withdrawn = 0 })) (sym (still-tick p e))
+    ∙ ap (λ (t : Ticked). withTick t (tickCall (t .pump))) (ran-still p n e)

@@ -1,0 +1,2 @@
+-- Many ticks at a time.
+pub mod Ticking

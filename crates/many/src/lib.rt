@@ -1,0 +1,52 @@
+// Many ticks at a time (document 01, Ticks and phases; the bench program's `T n`): the same as that many calls of `Pump::tick`, one after
+// the other. The state is tested once. A tick keeps a sound state sound, so that behind the first test only the core is carried.
+ghost use mathlib.Core.Path.{_≡_};
+ghost use mathlib.Core.Bool.{true};
+ghost use Rattle.pump.specs.Holder.{soundPump};
+ghost use Rattle.many.specs.Ticking.{ticked};
+use pump::Pump;
+
+// The pump after so many ticks, and the steps that they gave.
+pub struct Ticked {
+    pub pump: Pump,
+    pub infused: u64,
+    pub withdrawn: u64,
+}
+
+// A state that is not sound stays as it is: each of the ticks would be refused.
+pub fn ticks(pump: Pump, n: u32) -> Ticked
+    ensures { λ r. ⌜ r ≡ ticked n pump ⌝ }
+{
+    if pump.sound() {
+        return run(pump, n);
+    }
+    Ticked {
+        pump: pump,
+        infused: 0,
+        withdrawn: 0,
+    }
+}
+
+// A tick gives at most 255 steps in a direction, and n is below 2^32, so that a sum is below 2^64.
+fn run(pump: Pump, n: u32) -> Ticked
+    requires { ⌜ soundPump pump ≡ true ⌝ }
+    ensures { λ r. ⌜ r ≡ ticked n pump ⌝ }
+{
+    let mut core = pump.core;
+    let mut infused: u64 = 0;
+    let mut withdrawn: u64 = 0;
+    let mut i: u32 = 0;
+    while i < n {
+        let here = pump.phase_at(core.run.place.current);
+        let moved = core.tick(here, Pump::PHASES);
+        core = moved.core;
+        infused += moved.infused as u64;
+        withdrawn += moved.withdrawn as u64;
+        i += 1;
+    }
+    Ticked {
+        pump: pump.with_core(core),
+        infused: infused,
+        withdrawn: withdrawn,
+    }
+}

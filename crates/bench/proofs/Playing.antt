@@ -1,0 +1,179 @@
+-- The bytes of the input, one after the other: what the loops know of the bench and of the buffer.
+-- Assumes nothing.
+use Prim.Native.Nat.{ℕ, zero, suc, _+_, _-_, _≤_, _<_}
+use mathlib.Core.Path.{_≡_, refl, sym, ap, _∙_}
+use mathlib.Core.List.{List, [], _∷_, _++_, append-assoc, append-nil}
+use native.Mathlib.Numerals.{add-one}
+use native.Mathlib.Omega.{arith}
+use lib.ListN.{length, take, drop, getD, take-append-drop, length-drop, drop-of-length-le}
+use lib.Seq.{take-suc, take-all, drop-drop}
+use Rattle.base.specs.Wrote.{Wrote}
+use Rattle.base.proofs.Writing.{wrote-as, wrote-then, wrote-none, wrote-length}
+use Rattle.bench.specs.Places.{after, inputEnd}
+use Rattle.bench.specs.Printing.{Prints}
+use Rattle.bench.specs.Rigs.{rigAfter, printed}
+use Rattle.bench.specs.Scripts.{turned, turnSays, played, says, closing, Feeds}
+use Rattle.bench.specs.declared.places.Act.{Act}
+use Rattle.bench.specs.declared.feeding.Bench.{Bench}
+use Rattle.bench.specs.declared.feeding.Fed.{Fed}
+use Rattle.bench.specs.declared.places.Step.{Step}
+use Rattle.bench.specs.declared.rigs.Rig.{Rig}
+
+-- ---- one byte
+module _ (w : Bench) (b : ℕ) (step : Step) (e : step ≡ after (w .place) b) where
+  pub turn-bench :
+      (r : Rig) → r ≡ rigAfter (w .rig) (step .act) → _≡_ {A = Bench} (record { rig = r; place = step .place }) (turned w b)
+  unfolding turned
+  turn-bench r f = rw (f, e)
+
+  pub turn-wrote :
+      {l m : List ℕ} {i j most : ℕ} → Prints l m i j most (printed (w .rig) (step .act)) → Wrote l m i j (turnSays w b)
+  unfolding turnSays
+  turn-wrote p = wrote-as (p .wrote) (ap (λ (s : Step). printed (w .rig) (s .act)) e)
+
+-- ---- the end of the input
+pub closing-wrote :
+    (w : Bench) (a : Act) → a ≡ inputEnd (w .place) → {l m : List ℕ} {i j most : ℕ} → Prints l m i j most (printed (w .rig) a)
+    → Wrote l m i j (closing w)
+unfolding closing
+closing-wrote w a e p = wrote-as (p .wrote) (ap (printed (w .rig)) e)
+
+-- ---- bytes and one byte more
+played-append : (w : Bench) (s t : List ℕ) → played w (s ++ t) ≡ played (played w s) t
+unfolding played
+played-append w [] t = refl
+played-append w (b ∷ s) t = played-append (turned w b) s t
+
+says-append : (w : Bench) (s t : List ℕ) → says w (s ++ t) ≡ says w s ++ says (played w s) t
+unfolding played says
+says-append w [] t = refl
+says-append w (b ∷ s) t =
+    ap (λ (u : List ℕ). turnSays w b ++ u) (says-append (turned w b) s t)
+    ∙ sym (append-assoc (turnSays w b) (says (turned w b) s) (says (played (turned w b) s) t))
+
+played-snoc : (w : Bench) (s : List ℕ) (b : ℕ) → played w (s ++ b ∷ []) ≡ turned (played w s) b
+unfolding played
+played-snoc w s b = played-append w s (b ∷ [])
+
+says-snoc : (w : Bench) (s : List ℕ) (b : ℕ) → says w (s ++ b ∷ []) ≡ says w s ++ turnSays (played w s) b
+unfolding says
+says-snoc w s b = says-append w s (b ∷ []) ∙ ap (λ (u : List ℕ). says w s ++ u) (append-nil (turnSays (played w s) b))
+
+-- ---- i bytes of s were played from w, and what they print stands at the start of the buffer
+pub record Feeding (w : Bench) (s before out : List ℕ) (now : Bench) (i at : ℕ) : Type 0 where
+  pub within : i ≤ length s
+  pub stands : now ≡ played w (take i s)
+  pub wrote : Wrote before out 0 at (says w (take i s))
+  pub same : length out ≡ length before
+
+pub feeding-none : (w : Bench) (s l : List ℕ) → Feeding w s l l w 0 0
+unfolding played says
+feeding-none w s l = record { within = omega arith; stands = refl; wrote = wrote-none l 0 (omega arith); same = refl }
+
+module _ {w : Bench} {s l m : List ℕ} {now : Bench} {i at : ℕ} (f : Feeding w s l m now i at) where
+  pub feeding-more :
+      {o : List ℕ} {next : Bench} {end : ℕ}
+      → i < length s
+      → next ≡ turned now (getD s i 0)
+      → Wrote m o at end (turnSays now (getD s i 0))
+      → Feeding w s l o next (i + 1) end
+  feeding-more {o} {next} {end} h e v =
+      let b = getD s i 0 in
+      let grown : take (i + 1) s ≡ take i s ++ b ∷ [] = rw add-one (take-suc s i 0 h) in
+      let n = f .stands in
+      record {
+        within = omega arith;
+        stands =
+            e ∙ ap (λ (x : Bench). turned x b) n ∙ sym (played-snoc w (take i s) b) ∙ ap (λ (t : List ℕ). played w t) (sym grown);
+        wrote =
+            wrote-as
+            (wrote-then (f .wrote) v)
+            (ap (λ (x : Bench). says w (take i s) ++ turnSays x b) n
+            ∙ sym (says-snoc w (take i s) b)
+            ∙ ap (λ (t : List ℕ). says w t) (sym grown));
+        same = wrote-length v ∙ f .same;
+      }
+
+  pub feeding-all : length s ≤ i → Feeds w s l m (record { bench = now; taken = i; end = at })
+  feeding-all h =
+      record { within = f .within; some = λ (z : 0 < length s). omega arith; stands = f .stands; wrote = f .wrote }
+
+-- a buffer with room for one byte's lines is full only after a byte
+some-taken :
+    (w : Bench) (s l m : List ℕ) (now : Bench) (i at : ℕ) → Feeding w s l m now i at → 69 ≤ length l → length m - at < 69 → 0 < i
+unfolding says
+some-taken w s l m now zero at f r h = let z : at ≡ 0 = f .wrote .ends in absurd (omega (arith, f .same))
+some-taken w s l m now (suc i) at f r h = omega arith
+
+pub feeding-full :
+    {w : Bench} {s l m : List ℕ} {now : Bench} {i at : ℕ}
+    → Feeding w s l m now i at
+    → 69 ≤ length l
+    → length m - at < 69
+    → Feeds w s l m (record { bench = now; taken = i; end = at })
+feeding-full {w} {s} {l} {m} {now} {i} {at} f r h =
+    record {
+      within = f .within;
+      some = λ (z : 0 < length s). some-taken w s l m now i at f r h;
+      stands = f .stands;
+      wrote = f .wrote;
+    }
+
+-- ---- a part of the input was played: the rest is played from there
+module _ (s : List ℕ) (from : ℕ) where
+  -- what is lent of s from a place on
+  abbrev pub part : List ℕ
+  part = take (length s - from) (drop from s)
+
+  part-rest : part ≡ drop from s
+  part-rest = take-all (length s - from) (drop from s) (simp length-drop (omega arith))
+
+  pub part-length : from ≤ length s → length part ≡ length s - from
+  part-length h = ap length part-rest ∙ length-drop from s
+
+-- ---- the input up to a place was played, and the rest is played from there
+pub record Plays (s : List ℕ) (w now : Bench) (from : ℕ) (out : List ℕ) : Type 0 where
+  pub within : from ≤ length s
+  pub short : length s < 18_446_744_073_709_551_616
+  pub rest : played now (drop from s) ≡ played w s
+  pub roomy : length out ≡ 65536
+
+pub plays-none :
+    (s : List ℕ) (w : Bench) (out : List ℕ) → length s < 18_446_744_073_709_551_616 → length out ≡ 65536 → Plays s w w 0 out
+plays-none s w out h l = record { within = omega arith; short = h; rest = refl; roomy = l }
+
+module _ {s : List ℕ} {w now : Bench} {from : ℕ} {out : List ℕ} (p : Plays s w now from out) where
+  pub plays-all : length s ≤ from → now ≡ played w s
+  unfolding played
+  plays-all l = ap (λ (t : List ℕ). played now t) (sym (drop-of-length-le s l)) ∙ p .rest
+
+  module _ {after : List ℕ} {r : Fed} (f : Feeds now (part s from) out after r) where
+    within-rest : from + r .taken ≤ length s
+    within-rest = omega (arith, p .within, f .within, part-length s from (p .within))
+
+    pub plays-fits : from + r .taken < 18_446_744_073_709_551_616
+    plays-fits = omega (arith, within-rest, p .short)
+
+    pub plays-less : from < length s → length s - (from + r .taken) < length s - from
+    plays-less h =
+        let l = part-length s from (p .within) in
+        let some : 0 < r .taken = f .some (omega arith) in
+        omega arith
+
+    pub plays-more : Plays s w (r .bench) (from + r .taken) after
+    plays-more =
+        let left : List ℕ = drop from s in
+        let taken = r .taken in
+        record {
+          within = within-rest;
+          short = p .short;
+          rest =
+              ap
+              (λ (x : Bench). played x (drop (from + taken) s))
+              (f .stands ∙ ap (λ (t : List ℕ). played now (take taken t)) (part-rest s from))
+              ∙ ap (λ (t : List ℕ). played (played now (take taken left)) t) (sym (drop-drop taken from s))
+              ∙ sym (played-append now (take taken left) (drop taken left))
+              ∙ ap (λ (t : List ℕ). played now t) (take-append-drop taken left)
+              ∙ p .rest;
+          roomy = wrote-length (f .wrote) ∙ p .roomy;
+        }

@@ -1,0 +1,144 @@
+-- `Rig::act` meets its contract: what was called for the act that was matched.
+-- Assumes nothing.
+use mathlib.Core.Path.{refl}
+use native.Mathlib.Omega.{arith}
+use Rattle.base.proofs.Writing.{wrote-none}
+use Rattle.bench.proofs.Acting.{act-rig, act-prints}
+use borrow.Author.Needs.{needs}
+use Rattle.bench.proofs.rigs.Rig.act.Statement.{statement}
+use Rattle.bench.proofs.rigs.Rig.act.Tie as tie
+
+enum-told : tie.Need-enum-told
+enum-told c = search needs
+
+enum-known-act : tie.Need-enum-known-act
+enum-known-act c = search needs
+
+send-requires : tie.Need-send-requires
+send-requires c κs = search needs
+
+enum-known-act-2 : tie.Need-enum-known-act-2
+enum-known-act-2 c = search needs
+
+finish-requires : tie.Need-finish-requires
+finish-requires c κs = search needs
+
+enum-known-act-3 : tie.Need-enum-known-act-3
+enum-known-act-3 c = search needs
+
+set-requires : tie.Need-set-requires
+set-requires c κs = search needs
+
+enum-known-act-4 : tie.Need-enum-known-act-4
+enum-known-act-4 c = search needs
+
+run-requires : tie.Need-run-requires
+run-requires c κs = search needs
+
+enum-told-2 : tie.Need-enum-told-2
+enum-told-2 c = search needs
+
+complaint-requires : tie.Need-complaint-requires
+complaint-requires c κs = search needs
+
+returns : tie.Need-returns
+returns c =
+    let g = c .before .before .before .args .self in
+    let e = c .enum-told .given .1 in (
+      act-rig g _ _ _ e refl,
+      act-prints g _ _ 0 e (omega arith) (record { wrote = wrote-none _ _ (omega arith); few = omega arith }),
+    )
+
+same-length : tie.Need-same-length
+same-length c = search needs
+
+returns-2 : tie.Need-returns-2
+returns-2 c =
+    let send-at = c .before .before in
+    let act-at = send-at .before .before .before in
+    let start = act-at .before .before .before in
+    let g = start .args .self in
+    let e = act-at .act .given .1 in
+    let f = send-at .send .ensures in
+    (act-rig g _ _ _ e (f .0), act-prints g _ _ 46 e (omega arith) (f .1))
+
+same-length-2 : tie.Need-same-length-2
+same-length-2 c = search needs
+
+returns-3 : tie.Need-returns-3
+returns-3 c =
+    let finish-at = c .before .before in
+    let act2-at = finish-at .before .before .before in
+    let start = act2-at .before .before .before in
+    let g = start .args .self in
+    let e = act2-at .act2 .given .1 in
+    let f = finish-at .finish .ensures in
+    (act-rig g _ _ _ e (f .0), act-prints g _ _ 47 e (omega arith) (f .1))
+
+same-length-3 : tie.Need-same-length-3
+same-length-3 c = search needs
+
+returns-4 : tie.Need-returns-4
+returns-4 c =
+    let set-at = c .before .before in
+    let act3-at = set-at .before .before .before in
+    let start = act3-at .before .before .before in
+    let g = start .args .self in
+    let e = act3-at .act3 .given .1 in
+    let f = set-at .set .ensures in
+    (act-rig g _ _ _ e (f .0), act-prints g _ _ 2 e (omega arith) (f .1))
+
+same-length-4 : tie.Need-same-length-4
+same-length-4 c = search needs
+
+returns-5 : tie.Need-returns-5
+returns-5 c =
+    let run-at = c .before .before in
+    let act4-at = run-at .before .before .before in
+    let start = act4-at .before .before .before in
+    let g = start .args .self in
+    let e = act4-at .act4 .given .1 in
+    let f = run-at .run .ensures in
+    (act-rig g _ _ _ e (f .0), act-prints g _ _ 69 e (omega arith) (f .1))
+
+same-length-5 : tie.Need-same-length-5
+same-length-5 c = search needs
+
+returns-6 : tie.Need-returns-6
+returns-6 c =
+    let complaint-at = c .before .before in
+    let enum-told2-at = complaint-at .before .before in
+    let start = enum-told2-at .before .before .before in
+    let g = start .args .self in
+    let e = enum-told2-at .enum-told2 .given .1 in
+    let w = complaint-at .complaint .ensures in (
+      act-rig g _ _ _ e refl,
+      act-prints g _ _ 2 e (omega arith) (record { wrote = w; few = omega (arith, w .ends) }),
+    )
+
+pub act-spec : {M : Type 1} → statement M
+act-spec =
+    tie.close
+    (tie.spec
+    enum-told
+    enum-known-act
+    send-requires
+    enum-known-act-2
+    finish-requires
+    enum-known-act-3
+    set-requires
+    enum-known-act-4
+    run-requires
+    enum-told-2
+    complaint-requires
+    returns
+    same-length
+    returns-2
+    same-length-2
+    returns-3
+    same-length-3
+    returns-4
+    same-length-4
+    returns-5
+    same-length-5
+    returns-6)

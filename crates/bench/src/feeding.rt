@@ -1,0 +1,98 @@
+// The bytes of the input, one after the other, and its end.
+ghost use mathlib.Core.Path.{_≡_};
+ghost use Prim.Native.Nat.{_+_, _≤_};
+ghost use lib.ListN.{length};
+ghost use Rattle.base.specs.Wrote.{Wrote};
+ghost use Rattle.bench.specs.Scripts.{freshBench, turned, turnSays, closing, Feeds};
+use crate::places::Place;
+use crate::rigs::ROOM;
+use crate::rigs::Rig;
+
+// The rig, and where in a line the input stands.
+pub struct Bench {
+    pub rig: Rig,
+    pub place: Place,
+}
+
+// The bench after a part of the input, how much of it was taken, and where what it printed ends.
+pub struct Fed {
+    pub bench: Bench,
+    pub taken: usize,
+    pub end: usize,
+}
+
+struct Turned {
+    bench: Bench,
+    end: usize,
+}
+
+impl Bench {
+    pub fn new() -> Bench
+        ensures { λ r. ⌜ r ≡ freshBench ⌝ }
+    {
+        Bench {
+            rig: Rig::new(),
+            place: Place::Start,
+        }
+    }
+
+    // As much of `s` as there is room in `out` for what it prints.
+    pub fn feed(self, s: &[u8], out: &mut [u8]) -> Fed
+        requires { ⌜ 69 ≤ length (now out) ⌝ }
+        ensures { λ r. ⌜ Feeds self (now (s .entry)) (now (out .entry)) (now (out .exit)) r ⌝ }
+    {
+        let mut now = self;
+        let mut i = 0;
+        let mut at = 0;
+        while i < s.len() {
+            if out.len() - at < ROOM {
+                return Fed {
+                    bench: now,
+                    taken: i,
+                    end: at,
+                };
+            }
+            let turned = now.turn(s[i], out, at);
+            now = turned.bench;
+            at = turned.end;
+            i += 1;
+        }
+        Fed {
+            bench: now,
+            taken: i,
+            end: at,
+        }
+    }
+
+    // One byte.
+    fn turn(self, b: u8, out: &mut [u8], at: usize) -> Turned
+        requires { ⌜ at + 69 ≤ length (now out) ⌝ }
+        ensures { λ r. ⌜ (r .bench ≡ turned self b) × Wrote (now (out .entry)) (now (out .exit)) at (r .end) (turnSays self b) ⌝ }
+    {
+        let place = self.place;
+        let step = place.after(b);
+        let next = step.place;
+        let act = step.act;
+        let rig = self.rig;
+        let acted = rig.act(act, out, at);
+        let after = acted.rig;
+        Turned {
+            bench: Bench {
+                rig: after,
+                place: next,
+            },
+            end: acted.end,
+        }
+    }
+
+    // The end of the input.
+    pub fn closed(self, out: &mut [u8]) -> usize
+        requires { ⌜ 69 ≤ length (now out) ⌝ }
+        ensures { λ r. ⌜ Wrote (now (out .entry)) (now (out .exit)) 0 r (closing self) ⌝ }
+    {
+        let place = self.place;
+        let rig = self.rig;
+        let acted = rig.act(place.input_end(), out, 0);
+        acted.end
+    }
+}

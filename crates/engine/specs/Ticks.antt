@@ -1,4 +1,4 @@
--- One tick.   (01, Ticks and phases: "Only I, W and T move with ticks. A tick does one of: enter the current phase, or work the entered one")
+-- One tick: it enters the current phase or works the entered one, and only I, W and T move.   (01, Ticks and phases)
 use mathlib.Core.Bool.{Bool, true, false}
 use Rattle.program.specs.Functions.{pauseTicks}
 use Rattle.program.specs.declared.functions.Function.{Function}

@@ -73,7 +73,8 @@ worked-sound d p rate v hourly h s n =
       (
         t .1 .0,
         (
-          below (v .target) (v .given) (v .given + stepsOf v hourly (threshold d)) (eqb (p .volume) 0) (eqb (v .target) 0) refl (t .1 .1 .0) n,
+          below (v .target) (v .given) (v .given + stepsOf v hourly (threshold d)) (eqb (p .volume) 0) (eqb (v .target) 0) refl
+              (t .1 .1 .0) n,
           (t .1 .1 .1 .0, (t .1 .1 .1 .1 .0, tt)),
         ),
       ),

@@ -46,7 +46,9 @@ handy-of p e =
 tick-by :
     (p : Pump) (sound : Bool)
     → sound ≡ soundPump p
-    → movedBy p (if sound then tickOf (p .core) (phaseAt (p .phases) (p .core .run .place .current)) else silent (p .core)) (unlessSound sound)
+    → movedBy p
+    (if sound then tickOf (p .core) (phaseAt (p .phases) (p .core .run .place .current)) else silent (p .core))
+    (unlessSound sound)
     ≡ tickCall p
 unfolding tickCall
 tick-by p true s = sym (simp (sym s))

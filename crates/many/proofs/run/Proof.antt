@@ -44,10 +44,16 @@ add-withdrawn c =
     omega arith
 
 add-i : tie.Need-add-i Inv-loop μ-loop
-add-i c = let turn = c .before .before .before .before .before .before .loop in let w = c .before .before .before .before .before in omega arith
+add-i c =
+    let turn = c .before .before .before .before .before .before .loop in
+    let w = c .before .before .before .before .before in
+    omega arith
 
 loop-less : tie.Need-loop-less Inv-loop μ-loop
-loop-less c = let turn = c .before .before .before .before .before .before .loop in let w = c .before .before .before .before .before in omega arith
+loop-less c =
+    let turn = c .before .before .before .before .before .before .loop in
+    let w = c .before .before .before .before .before in
+    omega arith
 
 loop-again : tie.Need-loop-again Inv-loop μ-loop
 loop-again c =
@@ -57,8 +63,8 @@ loop-again c =
     let m = c .before .before .before .tick in
     let full = simp length-map at (k .good .0 .1 .1 .0 .1 .0 .1) in (
       omega arith,
-      ran-more (k .args .pump) full (turn .core) _ _ _ (turn .inv .1) _ (c .before .before .before .before .phase-at .ensures) (m .result) (m .ensures) (omega arith)
-          (omega arith),
+      ran-more (k .args .pump) full (turn .core) _ _ _ (turn .inv .1) _ (c .before .before .before .before .phase-at .ensures)
+          (m .result) (m .ensures) (omega arith) (omega arith),
     )
 
 with-core-requires : tie.Need-with-core-requires Inv-loop μ-loop

@@ -20,7 +20,8 @@ pumps-requires c κs = search needs
 returns : tie.Need-returns
 unfolding soundVisit
 returns c =
-    rw (c .pumps .ensures, c .before .usable .ensures, c .before .before .before .before .before .before .before .step-target .ensures, c .before .before .before .before .before .before .before .before .step-threshold .ensures)
+    let k = c .before .before .before .before .before .before .before in
+    rw (c .pumps .ensures, c .before .usable .ensures, k .step-target .ensures, k .before .step-threshold .ensures)
 
 pub sound-spec : {M : Type 1} → statement M
 sound-spec =

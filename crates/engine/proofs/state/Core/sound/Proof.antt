@@ -14,7 +14,9 @@ sound-requires c κs = search needs
 
 returns : tie.Need-returns
 unfolding soundCore
-returns c = rw (c .sound .ensures) (simp (sym (c .before .before .before .before .sound-ranges .ensures) ∙ c .before .before .before .if1 .taken))
+returns c =
+    let in-range = sym (c .before .before .before .before .sound-ranges .ensures) ∙ c .before .before .before .if1 .taken in
+    rw (c .sound .ensures) (simp in-range)
 
 returns-2 : tie.Need-returns-2
 unfolding soundCore

@@ -19,7 +19,9 @@ sound-requires c κs = search needs
 
 returns : tie.Need-returns
 unfolding soundRanges
-returns c = rw (c .sound .ensures, c .before .before .before .before .before .is-writable .ensures, c .before .before .before .before .before .before .is-diameter .ensures)
+returns c =
+    let k = c .before .before .before .before .before in
+    rw (c .sound .ensures, k .is-writable .ensures, k .before .is-diameter .ensures)
 
 pub sound-ranges-spec : {M : Type 1} → statement M
 sound-ranges-spec =

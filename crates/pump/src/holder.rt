@@ -14,11 +14,11 @@ pub struct Pump {
 impl Pump {
     pub const PHASES: u8 = 41;
 
-    pub const LEAST_DIAMETER: u16 = 100;
+    pub const LEAST_DIAMETER: u16 = drive::LEAST_DIAMETER;
 
-    pub const MOST_DIAMETER: u16 = 50_000;
+    pub const MOST_DIAMETER: u16 = drive::MOST_DIAMETER;
 
-    pub const MOST_TOTAL: u64 = 1_000_000_000_000_000_000;
+    pub const MOST_TOTAL: u64 = dispense::MOST_TOTAL;
 
     // A pump just switched on.
     pub fn new() -> Pump

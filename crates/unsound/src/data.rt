@@ -8,7 +8,6 @@ use program::Function;
 
 pub fn all() {
     jumps();
-    jumps_at_the_ends();
     counts();
     seconds();
     tenths();
@@ -23,12 +22,8 @@ fn fits(name: &[u8], function: Function) {
 }
 
 fn misfits(name: &[u8], function: Function) {
-    misfits_at(name, MIDDLE, function);
-}
-
-fn misfits_at(name: &[u8], n: u8, function: Function) {
     let base = states::stopped();
-    broken(name, base, with_function(base, n, function));
+    broken(name, base, with_function(base, MIDDLE, function));
 }
 
 fn jumps() {
@@ -36,11 +31,6 @@ fn jumps() {
     fits(b"JMP 41", Function::Jmp(41));
     misfits(b"JMP 0", Function::Jmp(0));
     misfits(b"JMP 42", Function::Jmp(42));
-}
-
-fn jumps_at_the_ends() {
-    misfits_at(b"JMP 0 in the first phase", 1, Function::Jmp(0));
-    misfits_at(b"JMP 42 in the last phase", 41, Function::Jmp(42));
 }
 
 fn counts() {
@@ -81,5 +71,4 @@ fn levels() {
     fits(b"OUT 0", Function::Out(0));
     fits(b"OUT 1", Function::Out(1));
     misfits(b"OUT 2", Function::Out(2));
-    misfits(b"OUT 255", Function::Out(255));
 }

@@ -12,7 +12,6 @@ pub fn all() {
     controls();
     deletes();
     letters();
-    others();
 }
 
 fn full() -> Pump {
@@ -46,45 +45,27 @@ fn lengths() {
     sound(b"line of 0", of(0, false));
     sound(b"line of 40", base);
     broken(b"line of 41", base, of(41, false));
-    broken(b"line of 41, over-long", base, of(41, true));
-    broken(b"line of 255", base, of(255, false));
 }
 
 fn overlong() {
     let base = of(40, true);
     sound(b"over-long with 40", base);
     broken(b"over-long with 39", base, of(39, true));
-    broken(b"over-long with 0", base, of(0, true));
 }
 
 fn controls() {
     let base = full();
     sound(b"byte 33 in the line", holding(20, 33));
     broken(b"byte 32 in the line", base, holding(20, 32));
-    broken(b"byte 32 at its start", base, holding(0, 32));
-    broken(b"byte 32 at its end", base, holding(39, 32));
-    broken(b"byte 13 in the line", base, holding(20, 13));
-    broken(b"byte 0 in the line", base, holding(20, 0));
 }
 
 fn deletes() {
     let base = full();
     sound(b"byte 126 in the line", holding(20, 126));
     broken(b"byte 127 in the line", base, holding(20, 127));
-    broken(b"byte 127 at its end", base, holding(39, 127));
-    sound(b"byte 128 in the line", holding(20, 128));
 }
 
 fn letters() {
     let base = full();
-    sound(b"byte 96 in the line", holding(20, 96));
     broken(b"letter a in the line", base, holding(20, b'a'));
-    broken(b"letter z in the line", base, holding(20, b'z'));
-    broken(b"letter m at its start", base, holding(0, b'm'));
-    broken(b"letter m at its end", base, holding(39, b'm'));
-    sound(b"byte 123 in the line", holding(20, 123));
-}
-
-fn others() {
-    sound(b"byte 255 in the line", holding(20, 255));
 }

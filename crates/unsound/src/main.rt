@@ -8,7 +8,7 @@
 //   calls     the six calls of a case, and what each left as it was
 //   show      a case's line
 //   apart     the comparison tried
-//   ranges, data, lines, written, open_loops, visits, rates, pauses, modes, paused: the cases, by the clauses
+//   ranges, data, lines, written, open_loops, visits, rates, pauses, modes: the cases, by the clauses
 //
 // A line has the refusals of six calls: a tick; pin 2 at level 0; byte 13; byte R; pin 9 at level 7, where 4 comes before 2 and 3; byte
 // 13 with a buffer of 10 bytes, where 4 comes before 1. `kept` says that no call gave a step, a beep or an answer's length, told
@@ -23,7 +23,6 @@ mod data;
 mod lines;
 mod modes;
 mod open_loops;
-mod paused;
 mod pauses;
 mod ranges;
 mod rates;
@@ -46,5 +45,4 @@ fn main() {
     open_loops::passes();
     pauses::all();
     modes::all();
-    paused::all();
 }

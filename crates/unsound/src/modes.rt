@@ -73,11 +73,6 @@ fn marks() {
         base,
         with_rate(base, some_rate()),
     );
-    broken(
-        b"stopped with a current rate of 0",
-        base,
-        with_rate(base, Rate::Current(RateUnit::Um, 0)),
-    );
 }
 
 fn stopped_alarms() {
@@ -93,16 +88,10 @@ fn stopped_alarms() {
 }
 
 fn running_alarms() {
-    alarmed(b"alarm R in a visit", states::visiting(), Alarm::PowerUp);
     alarmed(b"alarm E in a visit", states::visiting(), Alarm::Program);
     alarmed(
         b"alarm E in a timed pause",
         states::pausing(),
-        Alarm::Program,
-    );
-    alarmed(
-        b"alarm E in a trigger wait",
-        states::waiting(),
         Alarm::Program,
     );
     alarmed(
@@ -115,15 +104,7 @@ fn running_alarms() {
 fn paused_alarms() {
     let base = paused(states::visiting());
     sound(b"paused in a visit", base);
-    alarmed(b"alarm R while paused in a visit", base, Alarm::PowerUp);
     alarmed(b"alarm E while paused in a visit", base, Alarm::Program);
-    let between = paused(states::running(Work::Entering, 1));
-    sound(b"paused between phases", between);
-    alarmed(
-        b"alarm E while paused between phases",
-        between,
-        Alarm::Program,
-    );
 }
 
 fn alarmed(name: &[u8], base: Pump, alarm: Alarm) {

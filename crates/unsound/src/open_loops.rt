@@ -67,11 +67,6 @@ fn counts() {
         base,
         counted(4, looped(1, 5), looped(2, 5), looped(3, 5)),
     );
-    broken(
-        b"255 loops",
-        base,
-        counted(255, looped(1, 5), looped(2, 5), looped(3, 5)),
-    );
 }
 
 fn pairs() {
@@ -91,17 +86,11 @@ fn pairs() {
         base,
         begun_by(1, 7, 7),
     );
-    broken(b"two begun by phase 0", base, begun_by(0, 2, 0));
 }
 
 // A closed loop's place is asked nothing.
 fn pairs_not_open() {
     let base = counted(2, looped(1, 5), looped(2, 5), looped(3, 5));
-    broken(
-        b"the only two begun by one phase",
-        base,
-        counted(2, looped(7, 5), looped(7, 5), looped(3, 5)),
-    );
     sound(
         b"one begun by the phase of a closed one",
         counted(1, looped(7, 5), looped(7, 5), looped(42, 99)),
@@ -116,6 +105,5 @@ fn beginners() {
     let base = begun_by(1, 2, 3);
     sound(b"begun by 0, 1 and 41", begun_by(0, 1, 41));
     broken(b"first begun by 42", base, begun_by(42, 2, 3));
-    broken(b"second begun by 42", base, begun_by(1, 42, 3));
     broken(b"third begun by 42", base, begun_by(1, 2, 42));
 }

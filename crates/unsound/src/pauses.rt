@@ -38,21 +38,11 @@ fn seconds() {
     sound(b"2,000 ticks left of PAS 2", pausing(2_000));
     broken(b"0 ticks left of PAS 2", base, pausing(0));
     broken(b"2,001 ticks left of PAS 2", base, pausing(2_001));
-    broken(
-        b"4,294,967,295 ticks left of PAS 2",
-        base,
-        pausing(4_294_967_295),
-    );
 }
 
 fn tenths() {
     let base = states::running(Work::Pausing(500), TENTHS);
     sound(b"500 ticks left of PAS 0.5", base);
-    broken(
-        b"0 ticks left of PAS 0.5",
-        base,
-        with_work(base, Work::Pausing(0)),
-    );
     broken(
         b"501 ticks left of PAS 0.5",
         base,
@@ -71,9 +61,6 @@ fn pause_in(name: &[u8], function: Function) {
 fn pauses() {
     pause_in(b"timed pause in PAS 0", Function::Pas(0));
     pause_in(b"timed pause in RAT", Function::Rat);
-    pause_in(b"timed pause in STP", Function::Stp);
-    pause_in(b"timed pause in LOP", Function::Lop(99));
-    pause_in(b"timed pause in JMP", Function::Jmp(1));
     broken(
         b"timed pause past the last phase",
         states::pausing(),
@@ -90,10 +77,7 @@ fn waits() {
     let base = states::waiting();
     sound(b"trigger wait while paused", paused(base));
     wait_in(b"trigger wait in PAS 1", Function::Pas(1));
-    wait_in(b"trigger wait in PAS 0.1", Function::Tenths(1));
     wait_in(b"trigger wait in RAT", Function::Rat);
-    wait_in(b"trigger wait in STP", Function::Stp);
-    wait_in(b"trigger wait in OUT 0", Function::Out(0));
     broken(
         b"trigger wait past the last phase",
         base,

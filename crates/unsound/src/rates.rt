@@ -12,7 +12,6 @@ use pump::Pump;
 pub fn all() {
     clause(b"a visit under way has a usable rate");
     hourly();
-    by_the_minute();
     others();
 }
 
@@ -30,23 +29,7 @@ fn hourly() {
         pumping(282_745, RateUnit::Mh),
     );
     sound(b"current rate 0.001 UH", pumping(1, RateUnit::Uh));
-    broken(b"current rate 0 UH", base, pumping(0, RateUnit::Uh));
     broken(b"current rate 0 MH", base, pumping(0, RateUnit::Mh));
-}
-
-fn by_the_minute() {
-    let base = states::visiting();
-    sound(b"current rate 4.712 MM", pumping(4_712, RateUnit::Mm));
-    broken(b"current rate 4.713 MM", base, pumping(4_713, RateUnit::Mm));
-    sound(
-        b"current rate 4,712.400 UM",
-        pumping(4_712_400, RateUnit::Um),
-    );
-    broken(
-        b"current rate 4,712.401 UM",
-        base,
-        pumping(4_712_401, RateUnit::Um),
-    );
 }
 
 // A smaller diameter has a smaller threshold; only where there is no target does it change nothing else.
@@ -54,11 +37,6 @@ fn others() {
     let base = states::visiting();
     let endless = states::continuous();
     broken(b"no current rate", base, with_rate(base, Rate::NoRate));
-    broken(
-        b"continuous, no current rate",
-        endless,
-        with_rate(endless, Rate::NoRate),
-    );
     broken(
         b"a rate for a larger diameter",
         endless,

@@ -41,10 +41,7 @@ fn rates() {
         with_stored_rate(states::stopped(), MIDDLE, 9_999_000),
     );
     rate(b"stored rate 10.001", MIDDLE, 10_001);
-    rate(b"stored rate 100.010", MIDDLE, 100_010);
-    rate(b"stored rate 1,000.100", MIDDLE, 1_000_100);
     rate(b"stored rate 9,999.001", MIDDLE, 9_999_001);
-    rate(b"stored rate 10,000.000", MIDDLE, 10_000_000);
 }
 
 fn rates_of_the_ends() {
@@ -58,10 +55,7 @@ fn volumes() {
         with_volume(states::stopped(), MIDDLE, 9_999_000),
     );
     volume(b"stored volume 10.001", MIDDLE, 10_001);
-    volume(b"stored volume 100.010", MIDDLE, 100_010);
-    volume(b"stored volume 1,000.100", MIDDLE, 1_000_100);
     volume(b"stored volume 9,999.001", MIDDLE, 9_999_001);
-    volume(b"stored volume 10,000.000", MIDDLE, 10_000_000);
 }
 
 fn volumes_of_the_ends() {

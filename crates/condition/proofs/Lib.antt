@@ -1,0 +1,2 @@
+-- Condition 3 holds.
+pub mod Theorem

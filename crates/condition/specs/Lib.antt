@@ -1,0 +1,2 @@
+-- Condition 3.
+pub mod Condition

@@ -1,0 +1,104 @@
+-- After any calls from power-up:
+--     doses-fit     no visit to a phase with a volume has given more steps than fit in it, and one that ended of itself gave just so many
+--     doses-whole   the steps of all visits are the steps of all reports
+--     steps-in      a step is given only by a working tick of a visit under way
+--     doses-present the visit under way is the newest that is written down, so each step is written down where it was given
+-- Assumes nothing.
+use Prim.Native.Nat.{ℕ, _+_}
+use mathlib.Core.Path.{_≡_, refl, sym, ap, subst, _∙_}
+use mathlib.Core.Bool.{Bool, true, false}
+use mathlib.Core.List.{List, [], _∷_}
+use native.Mathlib.Nat.{add-zero, add-assoc}
+use native.Mathlib.Omega.{arith}
+use Rattle.base.specs.If.{if_then_else_}
+use Rattle.engine.specs.Settings.{isVisiting}
+use Rattle.pump.specs.Calls.{ticked, tickCall}
+use Rattle.pump.specs.Holder.{freshPump}
+use Rattle.pump.specs.Reports.{refused}
+use Rattle.pump.specs.declared.holder.Pump.{Pump}
+use Rattle.pump.specs.declared.reports.Refusal.the-variants.{Unsound}
+use Rattle.pump.specs.declared.reports.Report.{Report}
+use Rattle.statement.specs.Facts.{underWay}
+use Rattle.statement.specs.Histories.{Call, byteIn, pinAt, tickIn, reportAfter, after, Whole}
+use Rattle.statement.proofs.Always.{call-whole}
+use Rattle.statement.proofs.Wholes.{fresh-whole}
+use Rattle.events.specs.Events.{Event, eventOf, trace, Every}
+use Rattle.events.proofs.Following.{noted, follows}
+use Rattle.doses.specs.Visits.{isTick, begins, ends, stepsOf, Dose, seen, doses, Fits, Newest, stepsIn, stepsGiven}
+use Rattle.doses.specs.Visits.{InVisit, Present}
+use Rattle.doses.proofs.Catalogue.{Told, rests, told-in-visit}
+use Rattle.doses.proofs.Notebook.{Agree, agree-fresh, agree-present, keeps, sum-seen}
+use Rattle.doses.proofs.Bytes.{Still, byte-still}
+use Rattle.doses.proofs.Pins.{pin-still}
+use Rattle.doses.proofs.Worked.{told-tick}
+
+-- ---- what one call does: only a tick has to do with a visit
+abbrev event : Pump → Call → Report → List ℕ → Event
+event p c r b = record { before = p; call = c; report = r; behind = b }
+
+told-still : (p : Pump) (c : Call) (r : Report) (b : List ℕ) → isTick c ≡ false → Still p r → Told (event p c r b)
+unfolding begins ends stepsOf
+told-still p c r b h s = rests (rw h refl) (rw h refl) (s .none) (s .stays)
+
+tick-is : (p : Pump) → Whole p → tickCall p ≡ ticked p
+unfolding tickCall
+tick-is p w = ap (λ (t : Bool). if t then ticked p else refused p Unsound) (w .sound)
+
+told : (p : Pump) (c : Call) → Whole p → Told (eventOf p c)
+told p (byteIn b buffer) w = told-still p (byteIn b buffer) _ _ refl (byte-still p w b buffer)
+told p (pinAt pin level) w = told-still p (pinAt pin level) _ _ refl (pin-still p pin level)
+told p tickIn w = subst (λ (r : Report). Told (event p tickIn r [])) (sym (tick-is p w)) (told-tick p w)
+
+-- ---- the notebook and the state, call by call
+call-keeps : (p : Pump) (ws : List Dose) (c : Call) → Agree p ws → Agree (reportAfter p c .pump) (seen ws (eventOf p c))
+call-keeps p ws c a = keeps (eventOf p c) ws a (call-whole p c (a .whole)) (told p c (a .whole))
+
+none-yet : isVisiting (underWay freshPump) ≡ false
+unfolding freshPump
+none-yet = refl
+
+start : Agree freshPump []
+start = agree-fresh freshPump fresh-whole none-yet
+
+-- no visit to a phase with a volume has given more steps than fit in it, and one that ended of itself gave exactly that many
+pub doses-fit : (cs : List Call) → Every Fits (doses (trace freshPump cs))
+unfolding doses
+doses-fit cs = follows seen Agree call-keeps freshPump [] cs start .fits
+
+-- ---- no step is outside the visits
+sums :
+    (p : Pump) (ws : List Dose) (cs : List Call)
+    → Agree p ws
+    → stepsIn (noted seen ws (trace p cs)) ≡ stepsIn ws + stepsGiven (trace p cs)
+unfolding trace noted stepsGiven
+sums p ws [] a = sym (add-zero (stepsIn ws))
+sums p ws (c ∷ cs) a =
+    sums (reportAfter p c .pump) (seen ws (eventOf p c)) cs (call-keeps p ws c a)
+    ∙ ap (λ (n : ℕ). n + stepsGiven (trace (reportAfter p c .pump) cs)) (sum-seen (eventOf p c) ws a (told p c (a .whole)))
+    ∙ add-assoc (stepsIn ws) (stepsOf (eventOf p c)) (stepsGiven (trace (reportAfter p c .pump) cs))
+
+none-in : stepsIn [] ≡ 0
+unfolding stepsIn
+none-in = refl
+
+-- the steps of all visits are the steps of all reports
+pub doses-whole : (cs : List Call) → stepsIn (doses (trace freshPump cs)) ≡ stepsGiven (trace freshPump cs)
+unfolding doses
+doses-whole cs = sums freshPump [] cs start ∙ omega (arith, none-in)
+
+-- ---- every step is in a visit
+visited : (p : Pump) (cs : List Call) → Whole p → Every InVisit (trace p cs)
+unfolding trace
+visited p [] w = tt
+visited p (c ∷ cs) w = (told-in-visit (eventOf p c) (told p c w), visited (reportAfter p c .pump) cs (call-whole p c w))
+
+pub steps-in : (cs : List Call) → Every InVisit (trace freshPump cs)
+steps-in cs = visited freshPump cs fresh-whole
+
+-- and in the one that is written down
+pub doses-present :
+    (cs : List Call)
+    → isVisiting (underWay (after freshPump cs)) ≡ true
+    → Newest (Present (after freshPump cs)) (doses (trace freshPump cs))
+unfolding doses
+doses-present cs = agree-present (after freshPump cs) _ (follows seen Agree call-keeps freshPump [] cs start)

@@ -1,0 +1,2 @@
+-- The visits of a history.
+pub mod Visits

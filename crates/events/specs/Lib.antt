@@ -1,0 +1,2 @@
+-- What an observer of the calls sees.
+pub mod Events

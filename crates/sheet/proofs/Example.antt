@@ -1,0 +1,49 @@
+-- A run from power-up, computed from the definitions: the claims speak of something.   (01, Marked figures: the bench program)
+-- Assumes nothing.
+use Prim.Native.Nat.{ℕ, zero, suc}
+use mathlib.Core.Path.{refl}
+use mathlib.Core.List.{List, [], _∷_, _++_}
+use lib.ListN.{replicate}
+use Rattle.base.specs.Rows.{Gives}
+use Rattle.base.specs.Text.{text}
+use Rattle.program.specs.declared.phases.Direction.the-variants.{Infuse}
+use Rattle.pump.specs.Holder.{freshPump}
+use Rattle.statement.specs.Histories.{Call, byteIn, tickIn}
+use Rattle.events.specs.Events.{trace}
+use Rattle.sheet.specs.Totals.{clears, volume, sinceCleared}
+use Rattle.sheet.proofs.Opening.{opened}
+
+-- ---- what is sent: a text and its return, with room for an answer; and ticks
+abbrev sent : List ℕ → List Call
+sent [] = byteIn 13 (replicate 24 0) ∷ []
+sent (b ∷ s) = byteIn b (replicate 24 0) ∷ sent s
+
+abbrev ticked : ℕ → List Call
+ticked zero = []
+ticked (suc n) = tickIn ∷ ticked n
+
+-- ---- the document's example: 50 steps of 19,635,000 fl in 19 ticks, and one tick more to stop
+abbrev dispensed : ℕ → List Call
+dispensed n = sent (text "") ++ sent (text "RAT200MH") ++ sent (text "VOL1") ++ sent (text "RUN") ++ ticked n
+
+abbrev infused : List Call → ℕ
+infused cs = volume Infuse (sinceCleared Infuse (trace freshPump cs))
+
+abbrev pub rows : List (List Call × ℕ)
+rows =
+    (dispensed 1, 0)
+    ∷ (dispensed 5, 215_985_000)
+    ∷ (dispensed 19, 981_750_000)
+    -- CLD does not apply while operating, and is accepted of the stopped pump; the other direction's leaves this total
+    ∷ (dispensed 19 ++ sent (text "CLDINF"), 981_750_000)
+    ∷ (dispensed 20 ++ sent (text "CLDINF"), 0)
+    ∷ (dispensed 20 ++ sent (text "CLDWDR"), 981_750_000)
+    ∷ (dispensed 20 ++ sent (text "5CLDINF"), 981_750_000)
+    ∷ (dispensed 20 ++ sent (text "*RESET"), 0)
+    -- another diameter leaves what was given at its price
+    ∷ (dispensed 20 ++ sent (text "DIA20"), 981_750_000)
+    ∷ []
+
+pub as-the-document : Gives infused rows
+unfolding opened clears volume sinceCleared
+as-the-document = refl

@@ -1,0 +1,49 @@
+-- The definitions that a line, a tick and a visit compute with, opened together: `unfolding opened` computes calls on closed states.
+-- Assumes nothing.
+use Prim.Native.Nat.{ℕ}
+use Rattle.decimal.specs.Read as read
+use Rattle.decimal.specs.Writable as written
+use Rattle.drive.specs.Rates as rates
+use Rattle.drive.specs.Syringe as syringe
+use Rattle.program.specs.Phases as phases
+use Rattle.loops.specs.Loops as loops
+use Rattle.dispense.specs.Visits as visits
+use Rattle.line.specs.Characters as characters
+use Rattle.line.specs.Spelling as spelling
+use Rattle.line.specs.Names as names
+use Rattle.line.specs.Addresses as addresses
+use Rattle.line.specs.Arguments as arguments
+use Rattle.line.specs.Commands as commands
+use Rattle.line.specs.Lines as lines
+use Rattle.answer.specs.Answers as answers
+use Rattle.engine.specs.Entering as entering
+use Rattle.engine.specs.Working as working
+use Rattle.engine.specs.Ticks as ticks
+use Rattle.engine.specs.Queries as queries
+use Rattle.engine.specs.Settings as settings
+use Rattle.engine.specs.Control as control
+use Rattle.engine.specs.Sound as sound
+use Rattle.pump.specs.Holder as holder
+use Rattle.pump.specs.Lines as whole
+use Rattle.pump.specs.Calls as calls
+use Rattle.events.specs.Events as events
+
+unfoldable pub opened : ℕ
+unfolding read.isDigit read.isPoint read.plain read.digits read.points read.after read.numberFrom read.wellFormed read.thousandths
+    read.readOf written.writable rates.hourly rates.usable syringe.diameter syringe.stepVolume syringe.threshold syringe.volumeUnit
+    syringe.inFemtolitres syringe.target
+    phases.powerUp phases.soundPhase loops.soundLoops visits.dueOf visits.storeOf visits.stepsOf visits.givenOf visits.workedOf
+    visits.doneOf visits.soundVisit
+    characters.isReturn characters.isDropped characters.isLower characters.raised characters.arrivalOf characters.standing spelling.leads
+    spelling.isText names.nameOf names.argumentOf addresses.addressWidth addresses.addressOf addresses.behindAddress
+    arguments.diameterAsked arguments.volumeAsked arguments.unitsOf arguments.unitsAtEnd arguments.amountOf arguments.rateAsked
+    arguments.turnOf arguments.clearAsked arguments.runAsked commands.unlessMore commands.commandOf lines.withCharacter lines.afterByte
+    lines.allStanding lines.soundLine lines.addressIn lines.commandIn answers.bodyOf answers.answerOf answers.lengthIn answers.bufferAfter
+    entering.begunVisit entering.enterRate working.doseOf working.afterVisit working.afterDose working.given working.giveSteps
+    working.workVisit ticks.enter ticks.entered ticks.tickOf queries.statusOf settings.settled settings.setDiameter settings.setFlow
+    settings.setStored settings.setRate settings.setVolume control.runOn control.clearTotal sound.soundRun sound.soundRanges
+    sound.soundCore
+    holder.phaseAt holder.withPhase holder.freshPump holder.inHand holder.soundPhases holder.soundPump whole.resetPump whole.done
+    whole.obeyed whole.ours whole.afterLine calls.tickCall calls.received calls.receivedBuffer calls.byteReport calls.byteBuffer
+    events.trace
+opened = 0

@@ -1,0 +1,58 @@
+-- After any calls from power-up, refused ones among them:
+--     steps-ruled    the next call reports the steps that the rules give, where what was given so far is read off the reports
+--     totals-ruled   each total is the volume of the steps that the rules give, added up since it was last cleared
+-- Assumes nothing.
+use Prim.Native.Nat.{ℕ, _+_, _*_}
+use mathlib.Core.Path.{_≡_, refl, ap, _∙_}
+use mathlib.Core.List.{List}
+use Rattle.base.specs.If.{if_then_else_}
+use Rattle.drive.specs.Syringe.{stepVolume}
+use Rattle.program.specs.declared.phases.Direction.{Direction}
+use Rattle.program.specs.declared.phases.Direction.the-variants.{Infuse, Withdraw}
+use Rattle.dispense.specs.Totals.{totalOf}
+use Rattle.pump.specs.Holder.{freshPump}
+use Rattle.pump.specs.declared.holder.Pump.{Pump}
+use Rattle.statement.specs.Histories.{Call, reportAfter, after, Whole}
+use Rattle.statement.proofs.Always.{call-whole, sound-after}
+use Rattle.statement.proofs.Wholes.{fresh-whole}
+use Rattle.events.specs.Events.{eventOf, trace}
+use Rattle.events.proofs.Following.{follows}
+use Rattle.sheet.specs.Rules.{ruled, addedUp, ruledVolume}
+use Rattle.sheet.specs.Totals.{clears, stepsTold, volume, sinceCleared}
+use Rattle.sheet.proofs.Booking.{call-books}
+use Rattle.sheet.proofs.Ruling.{call-ruled}
+use Rattle.sheet.proofs.TotalsRight.{noted-fold, totals-right}
+
+pub steps-ruled :
+    (d : Direction) (cs : List Call) (c : Call)
+    → stepsTold d (eventOf (after freshPump cs) c)
+    ≡ ruled d (volume d (sinceCleared d (trace freshPump cs))) (after freshPump cs) c
+steps-ruled d cs c =
+    call-ruled d (after freshPump cs) c (sound-after cs) ∙ ap (λ x. ruled d x (after freshPump cs) c) (totals-right d cs)
+
+-- ---- the total, and what the observer has added up
+record Agree (d : Direction) (p : Pump) (x : ℕ) : Type 0 where
+  whole : Whole p
+  total : totalOf (p .core .totals) d ≡ x
+
+keeps : (d : Direction) (p : Pump) (x : ℕ) (c : Call) → Agree d p x → Agree d (reportAfter p c .pump) (addedUp d x (eventOf p c))
+keeps d p x c a =
+    record {
+      whole = call-whole p c (a .whole);
+      total =
+          call-books d p c
+          ∙ ap (λ n. if clears d (eventOf p c) then 0 else totalOf (p .core .totals) d + n * stepVolume (p .core .diameter))
+          (call-ruled d p c (a .whole .sound))
+          ∙ ap (λ y. addedUp d y (eventOf p c)) (a .total);
+    }
+
+starts : (d : Direction) → Agree d freshPump 0
+unfolding freshPump
+starts Infuse = record { whole = fresh-whole; total = refl }
+starts Withdraw = record { whole = fresh-whole; total = refl }
+
+pub totals-ruled :
+    (d : Direction) (cs : List Call) → totalOf (after freshPump cs .core .totals) d ≡ ruledVolume d (trace freshPump cs)
+unfolding ruledVolume
+totals-ruled d cs =
+    follows (addedUp d) (Agree d) (keeps d) freshPump 0 cs (starts d) .total ∙ noted-fold (addedUp d) 0 (trace freshPump cs)

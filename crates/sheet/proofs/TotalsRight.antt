@@ -1,0 +1,53 @@
+-- After any calls from power-up, refused ones among them:
+--     totals-right   each total is the volume of the steps reported since it was last cleared
+-- Assumes nothing.
+use Prim.Native.Nat.{ℕ, _+_}
+use mathlib.Core.Path.{_≡_, refl, ap, _∙_}
+use mathlib.Core.Bool.{Bool, true, false}
+use mathlib.Core.List.{List, [], _∷_, foldl}
+use Rattle.base.specs.If.{if_then_else_}
+use Rattle.program.specs.declared.phases.Direction.{Direction}
+use Rattle.program.specs.declared.phases.Direction.the-variants.{Infuse, Withdraw}
+use Rattle.dispense.specs.Totals.{totalOf}
+use Rattle.pump.specs.Holder.{freshPump}
+use Rattle.pump.specs.declared.holder.Pump.{Pump}
+use Rattle.statement.specs.Histories.{Call, reportAfter, after}
+use Rattle.events.specs.Events.{Event, eventOf, trace}
+use Rattle.events.proofs.Following.{noted, follows}
+use Rattle.sheet.specs.Totals.{clears, volumeOf, volume, since, sinceCleared}
+use Rattle.sheet.proofs.Booking.{call-books}
+
+-- the notebook of the one induction is a fold
+pub noted-fold : {M : Type 0} (note : M → Event → M) (m : M) (es : List Event) → noted note m es ≡ foldl note m es
+unfolding noted
+noted-fold note m [] = refl
+noted-fold note m (e ∷ es) = noted-fold note (note m e) es
+
+-- the total, and the volume of the events since it was cleared
+abbrev Agree : Direction → Pump → List Event → Type 0
+Agree d p es = totalOf (p .core .totals) d ≡ volume d es
+
+books-since :
+    (d : Direction) (t : Bool) (x : ℕ) (e : Event) (es : List Event)
+    → x ≡ volume d es
+    → (if t then 0 else x + volumeOf d e) ≡ volume d (if t then [] else e ∷ es)
+unfolding volume
+books-since d true x e es h = refl
+books-since d false x e es h = ap (λ y. y + volumeOf d e) h
+
+keeps : (d : Direction) (p : Pump) (es : List Event) (c : Call) → Agree d p es → Agree d (reportAfter p c .pump) (since d es (eventOf p c))
+keeps d p es c a =
+    call-books d p c ∙ books-since d (clears d (eventOf p c)) (totalOf (p .core .totals) d) (eventOf p c) es a
+
+starts : (d : Direction) → Agree d freshPump []
+unfolding freshPump volume
+starts Infuse = refl
+starts Withdraw = refl
+
+pub totals-right :
+    (d : Direction) (cs : List Call)
+    → totalOf (after freshPump cs .core .totals) d ≡ volume d (sinceCleared d (trace freshPump cs))
+unfolding sinceCleared
+totals-right d cs =
+    follows (since d) (Agree d) (keeps d) freshPump [] cs (starts d)
+    ∙ ap (volume d) (noted-fold (since d) [] (trace freshPump cs))

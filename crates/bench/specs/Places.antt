@@ -18,6 +18,15 @@ newline = 10
 abbrev pub carriageReturn : ℕ
 carriageReturn = 13
 
+-- anything but to wait
+abbrev pub isDeed : Act → Bool
+isDeed act.Wait = false
+isDeed (act.Send held b) = true
+isDeed (act.Finish held) = true
+isDeed (act.Set pin level) = true
+isDeed (act.Run n) = true
+isDeed act.Complain = true
+
 -- ---- a newline ends the line, and the line is done: a text is ended, ticks are run, a pin is set; any other line is `!`, an empty
 -- ---- one too. A return just before the newline belongs to the line's end.
 abbrev pub lineEnd : Place → Act

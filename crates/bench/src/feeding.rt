@@ -3,7 +3,7 @@ ghost use mathlib.Core.Path.{_≡_};
 ghost use Prim.Native.Nat.{_+_, _≤_};
 ghost use lib.ListN.{length};
 ghost use Rattle.base.specs.Wrote.{Wrote};
-ghost use Rattle.bench.specs.Scripts.{freshBench, turned, turnSays, closing, Feeds};
+ghost use Rattle.bench.specs.Scripts.{freshBench, closing, Feeds};
 use crate::places::Place;
 use crate::rigs::ROOM;
 use crate::rigs::Rig;
@@ -21,11 +21,6 @@ pub struct Fed {
     pub end: usize,
 }
 
-struct Turned {
-    bench: Bench,
-    end: usize,
-}
-
 impl Bench {
     pub fn new() -> Bench
         ensures { λ r. ⌜ r ≡ freshBench ⌝ }
@@ -36,52 +31,44 @@ impl Bench {
         }
     }
 
-    // As much of `s` as there is room in `out` for what it prints.
+    // As much of `s` as there is room in `out` for what it prints. Most bytes only move the place: the rig, which is large, is not
+    // touched for them.
     pub fn feed(self, s: &[u8], out: &mut [u8]) -> Fed
         requires { ⌜ 69 ≤ length (now out) ⌝ }
         ensures { λ r. ⌜ Feeds self (now (s .entry)) (now (out .entry)) (now (out .exit)) r ⌝ }
     {
-        let mut now = self;
+        let mut rig = self.rig;
+        let mut place = self.place;
         let mut i = 0;
         let mut at = 0;
         while i < s.len() {
             if out.len() - at < ROOM {
                 return Fed {
-                    bench: now,
+                    bench: Bench {
+                        rig: rig,
+                        place: place,
+                    },
                     taken: i,
                     end: at,
                 };
             }
-            let turned = now.turn(s[i], out, at);
-            now = turned.bench;
-            at = turned.end;
+            let step = place.after(s[i]);
+            let act = step.act;
+            place = step.place;
+            if act.is_deed() {
+                let acted = rig.act(act, out, at);
+                rig = acted.rig;
+                at = acted.end;
+            }
             i += 1;
         }
         Fed {
-            bench: now,
+            bench: Bench {
+                rig: rig,
+                place: place,
+            },
             taken: i,
             end: at,
-        }
-    }
-
-    // One byte.
-    fn turn(self, b: u8, out: &mut [u8], at: usize) -> Turned
-        requires { ⌜ at + 69 ≤ length (now out) ⌝ }
-        ensures { λ r. ⌜ (r .bench ≡ turned self b) × Wrote (now (out .entry)) (now (out .exit)) at (r .end) (turnSays self b) ⌝ }
-    {
-        let place = self.place;
-        let step = place.after(b);
-        let next = step.place;
-        let act = step.act;
-        let rig = self.rig;
-        let acted = rig.act(act, out, at);
-        let after = acted.rig;
-        Turned {
-            bench: Bench {
-                rig: after,
-                place: next,
-            },
-            end: acted.end,
         }
     }
 

@@ -1,6 +1,6 @@
 // Where in a line the input stands, and what a byte asks for there.
 ghost use mathlib.Core.Path.{_≡_};
-ghost use Rattle.bench.specs.Places.{after, lineEnd, inputEnd, returned, returnedAct, next, actOn};
+ghost use Rattle.bench.specs.Places.{isDeed, after, lineEnd, inputEnd, returned, returnedAct, next, actOn};
 use crate::bytes::behind_edge;
 use crate::bytes::behind_tick;
 use crate::bytes::in_level;
@@ -19,6 +19,18 @@ pub enum Act {
     Set(u8, u8),
     Run(u32),
     Complain,
+}
+
+impl Act {
+    // Whether anything is to be done.
+    pub fn is_deed(self) -> bool
+        ensures { λ r. ⌜ r ≡ isDeed self ⌝ }
+    {
+        match self {
+            Act::Wait => false,
+            _ => true,
+        }
+    }
 }
 
 // Before a line; in a text, and whether a return is held back, since it may belong to the line's end; behind a `T`, in its number;

@@ -6,3 +6,4 @@ pub mod Ticking
 pub mod Asking
 pub mod Obeying
 pub mod Switching
+pub mod Others

@@ -125,17 +125,6 @@ fn stored_rate(here: Phase) -> Reply
         Function::Rat => Reply::Rate(here.rate, unit),
         Function::Inc => Reply::Number(here.rate),
         Function::Dec => Reply::Number(here.rate),
-        Function::Stp => Reply::NotApplicable,
-        Function::Jmp(_) => Reply::NotApplicable,
-        Function::Lop(_) => Reply::NotApplicable,
-        Function::Lps => Reply::NotApplicable,
-        Function::Lpe => Reply::NotApplicable,
-        Function::Pas(_) => Reply::NotApplicable,
-        Function::Tenths(_) => Reply::NotApplicable,
-        Function::If(_) => Reply::NotApplicable,
-        Function::Evn(_) => Reply::NotApplicable,
-        Function::Evr => Reply::NotApplicable,
-        Function::Bep => Reply::NotApplicable,
-        Function::Out(_) => Reply::NotApplicable,
+        _ => Reply::NotApplicable,
     }
 }

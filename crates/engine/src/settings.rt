@@ -256,20 +256,7 @@ fn flows(function: Function) -> bool
 {
     match function {
         Function::Rat => true,
-        Function::Inc => false,
-        Function::Dec => false,
-        Function::Stp => false,
-        Function::Jmp(_) => false,
-        Function::Lop(_) => false,
-        Function::Lps => false,
-        Function::Lpe => false,
-        Function::Pas(_) => false,
-        Function::Tenths(_) => false,
-        Function::If(_) => false,
-        Function::Evn(_) => false,
-        Function::Evr => false,
-        Function::Bep => false,
-        Function::Out(_) => false,
+        _ => false,
     }
 }
 
@@ -278,20 +265,8 @@ fn ramps(function: Function) -> bool
     ensures { λ r. ⌜ r ≡ isRamp function ⌝ }
 {
     match function {
-        Function::Rat => false,
         Function::Inc => true,
         Function::Dec => true,
-        Function::Stp => false,
-        Function::Jmp(_) => false,
-        Function::Lop(_) => false,
-        Function::Lps => false,
-        Function::Lpe => false,
-        Function::Pas(_) => false,
-        Function::Tenths(_) => false,
-        Function::If(_) => false,
-        Function::Evn(_) => false,
-        Function::Evr => false,
-        Function::Bep => false,
-        Function::Out(_) => false,
+        _ => false,
     }
 }

@@ -144,20 +144,7 @@ fn is_wait(function: Function) -> bool
     ensures { λ r. ⌜ r ≡ waits function ⌝ }
 {
     match function {
-        Function::Rat => false,
-        Function::Inc => false,
-        Function::Dec => false,
-        Function::Stp => false,
-        Function::Jmp(_) => false,
-        Function::Lop(_) => false,
-        Function::Lps => false,
-        Function::Lpe => false,
         Function::Pas(n) => n == 0,
-        Function::Tenths(_) => false,
-        Function::If(_) => false,
-        Function::Evn(_) => false,
-        Function::Evr => false,
-        Function::Bep => false,
-        Function::Out(_) => false,
+        _ => false,
     }
 }

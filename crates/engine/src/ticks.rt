@@ -81,20 +81,7 @@ fn is_beep(function: Function) -> bool
     ensures { λ r. ⌜ r ≡ beeps function ⌝ }
 {
     match function {
-        Function::Rat => false,
-        Function::Inc => false,
-        Function::Dec => false,
-        Function::Stp => false,
-        Function::Jmp(_) => false,
-        Function::Lop(_) => false,
-        Function::Lps => false,
-        Function::Lpe => false,
-        Function::Pas(_) => false,
-        Function::Tenths(_) => false,
-        Function::If(_) => false,
-        Function::Evn(_) => false,
-        Function::Evr => false,
         Function::Bep => true,
-        Function::Out(_) => false,
+        _ => false,
     }
 }

@@ -5,6 +5,7 @@ pub mod Leading
 pub mod Letters
 pub mod Naming
 pub mod Calling
+pub mod Others
 pub mod Asking
 pub mod Behind
 pub mod Collecting

@@ -153,17 +153,11 @@ fn alone(f: Function) -> Command
         Function::Inc => Command::SetFunction(Function::Inc),
         Function::Dec => Command::SetFunction(Function::Dec),
         Function::Stp => Command::SetFunction(Function::Stp),
-        Function::Jmp(_) => Command::Malformed,
-        Function::Lop(_) => Command::Malformed,
         Function::Lps => Command::SetFunction(Function::Lps),
         Function::Lpe => Command::SetFunction(Function::Lpe),
-        Function::Pas(_) => Command::Malformed,
-        Function::Tenths(_) => Command::Malformed,
-        Function::If(_) => Command::Malformed,
-        Function::Evn(_) => Command::Malformed,
         Function::Evr => Command::SetFunction(Function::Evr),
         Function::Bep => Command::SetFunction(Function::Bep),
-        Function::Out(_) => Command::Malformed,
+        _ => Command::Malformed,
     }
 }
 
@@ -173,20 +167,12 @@ fn with_digit(f: Function, n: u8) -> Command
 {
     match f {
         Function::Out(_) => Command::SetFunction(Function::Out(n)),
-        Function::Rat => Command::Malformed,
-        Function::Inc => Command::Malformed,
-        Function::Dec => Command::Malformed,
-        Function::Stp => Command::Malformed,
         Function::Jmp(_) => Command::SetFunction(Function::Jmp(n)),
         Function::Lop(_) => Command::SetFunction(Function::Lop(n)),
-        Function::Lps => Command::Malformed,
-        Function::Lpe => Command::Malformed,
         Function::Pas(_) => Command::SetFunction(Function::Pas(n)),
-        Function::Tenths(_) => Command::Malformed,
         Function::If(_) => Command::SetFunction(Function::If(n)),
         Function::Evn(_) => Command::SetFunction(Function::Evn(n)),
-        Function::Evr => Command::Malformed,
-        Function::Bep => Command::Malformed,
+        _ => Command::Malformed,
     }
 }
 
@@ -194,21 +180,12 @@ fn with_pair(f: Function, n: u8) -> Command
     ensures { λ r. ⌜ r ≡ withDatum f (Datum.Pair n) ⌝ }
 {
     match f {
-        Function::Rat => Command::Malformed,
-        Function::Inc => Command::Malformed,
-        Function::Dec => Command::Malformed,
-        Function::Stp => Command::Malformed,
         Function::Jmp(_) => Command::SetFunction(Function::Jmp(n)),
         Function::Lop(_) => Command::SetFunction(Function::Lop(n)),
-        Function::Lps => Command::Malformed,
-        Function::Lpe => Command::Malformed,
         Function::Pas(_) => Command::SetFunction(Function::Pas(n)),
-        Function::Tenths(_) => Command::Malformed,
         Function::If(_) => Command::SetFunction(Function::If(n)),
         Function::Evn(_) => Command::SetFunction(Function::Evn(n)),
-        Function::Evr => Command::Malformed,
-        Function::Bep => Command::Malformed,
-        Function::Out(_) => Command::Malformed,
+        _ => Command::Malformed,
     }
 }
 
@@ -216,20 +193,7 @@ fn with_tenths(f: Function, n: u8) -> Command
     ensures { λ r. ⌜ r ≡ withDatum f (Datum.Decimal n) ⌝ }
 {
     match f {
-        Function::Rat => Command::Malformed,
-        Function::Inc => Command::Malformed,
-        Function::Dec => Command::Malformed,
-        Function::Stp => Command::Malformed,
-        Function::Jmp(_) => Command::Malformed,
-        Function::Lop(_) => Command::Malformed,
-        Function::Lps => Command::Malformed,
-        Function::Lpe => Command::Malformed,
         Function::Pas(_) => Command::SetFunction(Function::Tenths(n)),
-        Function::Tenths(_) => Command::Malformed,
-        Function::If(_) => Command::Malformed,
-        Function::Evn(_) => Command::Malformed,
-        Function::Evr => Command::Malformed,
-        Function::Bep => Command::Malformed,
-        Function::Out(_) => Command::Malformed,
+        _ => Command::Malformed,
     }
 }

@@ -1,6 +1,7 @@
--- `alone` meets its contract: each arm is the definition of its case.
+-- `alone` meets its contract: each arm is the definition of its case, and `_` of all that are left.
 -- Assumes nothing.
 use borrow.Author.Needs.{needs}
+use Rattle.line.proofs.Others.{none-alone}
 use Rattle.line.proofs.functions.alone.Statement.{statement}
 use Rattle.line.proofs.functions.alone.Tie as tie
 
@@ -28,27 +29,6 @@ enum-told-7 c = search needs
 enum-told-8 : tie.Need-enum-told-8
 enum-told-8 c = search needs
 
-enum-told-9 : tie.Need-enum-told-9
-enum-told-9 c = search needs
-
-enum-told-10 : tie.Need-enum-told-10
-enum-told-10 c = search needs
-
-enum-told-11 : tie.Need-enum-told-11
-enum-told-11 c = search needs
-
-enum-told-12 : tie.Need-enum-told-12
-enum-told-12 c = search needs
-
-enum-told-13 : tie.Need-enum-told-13
-enum-told-13 c = search needs
-
-enum-told-14 : tie.Need-enum-told-14
-enum-told-14 c = search needs
-
-enum-told-15 : tie.Need-enum-told-15
-enum-told-15 c = search needs
-
 returns : tie.Need-returns
 returns c = rw (c .enum-told .given .1)
 
@@ -62,10 +42,10 @@ returns-4 : tie.Need-returns-4
 returns-4 c = rw (c .enum-told4 .given .1)
 
 returns-5 : tie.Need-returns-5
-returns-5 c = search needs
+returns-5 c = rw (c .enum-told5 .given .1)
 
 returns-6 : tie.Need-returns-6
-returns-6 c = search needs
+returns-6 c = rw (c .enum-told6 .given .1)
 
 returns-7 : tie.Need-returns-7
 returns-7 c = rw (c .enum-told7 .given .1)
@@ -74,25 +54,7 @@ returns-8 : tie.Need-returns-8
 returns-8 c = rw (c .enum-told8 .given .1)
 
 returns-9 : tie.Need-returns-9
-returns-9 c = search needs
-
-returns-10 : tie.Need-returns-10
-returns-10 c = search needs
-
-returns-11 : tie.Need-returns-11
-returns-11 c = search needs
-
-returns-12 : tie.Need-returns-12
-returns-12 c = search needs
-
-returns-13 : tie.Need-returns-13
-returns-13 c = rw (c .enum-told13 .given .1)
-
-returns-14 : tie.Need-returns-14
-returns-14 c = rw (c .enum-told14 .given .1)
-
-returns-15 : tie.Need-returns-15
-returns-15 c = search needs
+returns-9 c = none-alone (c .before .args .f) (c .match .keys9)
 
 pub alone-spec : {M : Type 1} → statement M
 alone-spec =
@@ -106,13 +68,6 @@ alone-spec =
     enum-told-6
     enum-told-7
     enum-told-8
-    enum-told-9
-    enum-told-10
-    enum-told-11
-    enum-told-12
-    enum-told-13
-    enum-told-14
-    enum-told-15
     returns
     returns-2
     returns-3
@@ -121,10 +76,4 @@ alone-spec =
     returns-6
     returns-7
     returns-8
-    returns-9
-    returns-10
-    returns-11
-    returns-12
-    returns-13
-    returns-14
-    returns-15)
+    returns-9)

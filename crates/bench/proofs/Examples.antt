@@ -1,4 +1,5 @@
--- Lines and what they ask for, computed from the definitions.   (01, Marked figures: the bench program; docs/DECISIONS.md, 29 to 31)
+-- Inputs and their lines, lines and their items, computed from the definitions.   (01, Marked figures: the bench program;
+-- docs/DECISIONS.md, 29 to 31)
 use Prim.Native.Nat.{ℕ}
 use Prim.Native.String.{String}
 use mathlib.Core.Path.{refl}
@@ -7,48 +8,49 @@ use mathlib.Core.List.{List, [], _∷_, _++_}
 use Rattle.base.specs.Rows.{Gives}
 use Rattle.base.specs.Text.{text}
 use Rattle.decimal.specs.Read.{isDigit}
-use Rattle.bench.specs.Numbers.{grown, ticksAsked, levelAsked}
-use Rattle.bench.specs.Places.{lineEnd, after, kind, behindTick, inTicks, behindEdge, pinEnded, inPin, inLevel}
-use Rattle.bench.specs.declared.places.Act.{Act}
-use Rattle.bench.specs.declared.places.Act.the-variants.{Finish, Set, Run, Complain}
-use Rattle.bench.specs.declared.places.Place.{Place}
-use Rattle.bench.specs.declared.places.Place.the-variants.{Start}
+use Rattle.bench.specs.Items.{linesOf, Item, say, level, ticks, noItem, ticksItem, levelItem, itemOf}
 
--- where the input stands after some bytes
-abbrev placeAfter : Place → List ℕ → Place
-placeAfter p [] = p
-placeAfter p (b ∷ s) = placeAfter (after p b .place) s
-
--- what a newline behind these bytes asks for
-abbrev asked : List ℕ → Act
-asked s = lineEnd (placeAfter Start s)
-
-abbrev pub rows : List (List ℕ × Act)
-rows =
-    (text ">RAT 200.0 MH", Finish false)
-    ∷ (text "T 19", Run 19)
-    ∷ (text "T 007", Run 7)
-    ∷ (text "T 10000000", Run 10_000_000)
-    ∷ (text "T 10000001", Complain)
-    ∷ (text "T 99999999999999999999", Complain)
-    ∷ (text "T 0", Complain)
-    ∷ (text "T ", Complain)
-    ∷ (text "T  1", Complain)
-    ∷ (text "T 1 ", Complain)
-    ∷ (text "T 1" ++ 13 ∷ [], Run 1)
-    ∷ (text "T 1" ++ 13 ∷ 13 ∷ [], Complain)
-    ∷ (text "E 2 0", Set 2 0)
-    ∷ (text "E 02 001", Set 2 1)
-    ∷ (text "E 3 7", Set 3 7)
-    ∷ (text "E 2 ", Complain)
-    ∷ (text "E  0", Complain)
-    ∷ (text "E 2  0", Complain)
-    ∷ (text "E 258 0", Complain)
-    ∷ (text "E 2 0" ++ 13 ∷ [], Set 2 0)
-    ∷ (text "", Complain)
-    ∷ (text "t 1", Complain)
+-- ---- a newline is 10, a return 13
+abbrev inputs : List (List ℕ × List (List ℕ))
+inputs =
+    ([], [])
+    ∷ (text "T 1" ++ (10 ∷ text "E 2 0"), text "T 1" ∷ text "E 2 0" ∷ [])
+    ∷ (text "T 1" ++ (10 ∷ 10 ∷ []), text "T 1" ∷ [] ∷ [])
+    ∷ (text "T 1" ++ (13 ∷ 10 ∷ []), text "T 1" ∷ [])
+    ∷ (text "T 1" ++ (13 ∷ 13 ∷ 10 ∷ []), (text "T 1" ++ (13 ∷ [])) ∷ [])
+    ∷ (text ">" ++ (13 ∷ text "DIA"), (text ">" ++ (13 ∷ text "DIA")) ∷ [])
+    ∷ (text "T 1" ++ (13 ∷ []), (text "T 1" ++ (13 ∷ [])) ∷ [])
     ∷ []
 
-pub as-the-document : Gives asked rows
-unfolding after kind behindTick inTicks behindEdge pinEnded inPin inLevel isDigit grown ticksAsked levelAsked
+pub inputs-as-decided : Gives linesOf inputs
+unfolding linesOf
+inputs-as-decided = refl
+
+abbrev rows : List (List ℕ × Item)
+rows =
+    (text ">RAT 200.0 MH", say (text "RAT 200.0 MH"))
+    ∷ (text ">", say [])
+    ∷ (text "T 19", ticks 19)
+    ∷ (text "T 007", ticks 7)
+    ∷ (text "T 10000000", ticks 10_000_000)
+    ∷ (text "T 10000001", noItem)
+    ∷ (text "T 99999999999999999999", noItem)
+    ∷ (text "T 0", noItem)
+    ∷ (text "T ", noItem)
+    ∷ (text "T  1", noItem)
+    ∷ (text "T 1 ", noItem)
+    ∷ (text "T 1" ++ (13 ∷ []), noItem)
+    ∷ (text "E 2 0", level 2 0)
+    ∷ (text "E 02 001", level 2 1)
+    ∷ (text "E 3 7", level 3 7)
+    ∷ (text "E 2 ", noItem)
+    ∷ (text "E  0", noItem)
+    ∷ (text "E 2  0", noItem)
+    ∷ (text "E 258 0", noItem)
+    ∷ (text "", noItem)
+    ∷ (text "t 1", noItem)
+    ∷ []
+
+pub as-the-document : Gives itemOf rows
+unfolding itemOf ticksItem levelItem isDigit
 as-the-document = refl

@@ -1,4 +1,6 @@
--- Where in a line the input stands, and what a byte asks for there.   (01, Marked figures: the bench program; docs/DECISIONS.md, 29 to 31)
+-- Where in a line the input stands, and what a byte asks for there: how the program reads, a byte at a time. What an input means stands
+-- in Items, line by line, and `itemised` (proofs/Itemised.antt) says that the two are the same.   (01, Marked figures: the bench program;
+-- docs/DECISIONS.md, 29 to 31)
 use Prim.Native.Nat.{ℕ, _-_}
 use mathlib.Core.Bool.{Bool, true, false}
 use lib.Dec.{eqb}

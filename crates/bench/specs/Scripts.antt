@@ -1,4 +1,5 @@
--- The whole of a script: the bench after some bytes of it, and all that they print.   (01, Marked figures: the bench program)
+-- The whole of a script as the program plays it, a byte at a time: the bench after some bytes, and all that they print. Items says the
+-- same line by line (`itemised`, proofs/Itemised.antt).   (01, Marked figures: the bench program)
 use Prim.Native.Nat.{ℕ, _≤_, _<_}
 use mathlib.Core.Path.{_≡_}
 use mathlib.Core.List.{List, [], _∷_, _++_}
@@ -34,7 +35,7 @@ says w (b ∷ s) = turnSays w b ++ says (turned w b) s
 unfoldable pub closing : Bench → List ℕ
 closing w = printed (w .rig) (inputEnd (w .place))
 
--- ---- all that the program prints for an input
+-- ---- all that the program prints for an input: `scriptOf` of it
 unfoldable pub script : List ℕ → List ℕ
 script s = says freshBench s ++ closing (played freshBench s)
 

@@ -1,0 +1,146 @@
+-- The table over bytes says just what the lines and their items say: what the program prints for an input is `scriptOf` of it.
+-- Assumes nothing.
+use Prim.Native.Nat.{ℕ, zero, suc, _≤_}
+use mathlib.Core.Path.{_≡_, refl, sym, ap, _∙_}
+use mathlib.Core.Bool.{Bool, true, false, _&&_}
+use mathlib.Core.List.{List, [], _∷_, _++_}
+use native.Mathlib.Omega.{arith}
+use lib.Dec.{eqb, leb}
+use lib.ListN.{length}
+use Rattle.base.specs.If.{if_then_else_}
+use Rattle.base.specs.Text.{letter}
+use Rattle.pump.specs.Holder.{freshPump, soundPump}
+use Rattle.pump.specs.declared.holder.Pump.{Pump}
+use Rattle.bench.specs.Items.{Item, say, level, ticks, noItem, ticksItem, levelItem, tickItem, edgeItem, itemOf}
+use Rattle.bench.specs.Items.{isNumber, valueOf, upToBlank, pastBlank}
+use Rattle.bench.specs.Items.{itemLines, pumpAfter, linesOf, allLines, scriptOf}
+use Rattle.bench.specs.Places.{after, kind}
+use Rattle.bench.specs.Rigs.{setRig, setLines, runRig, runLines}
+use Rattle.bench.specs.Scripts.{freshBench, script}
+use Rattle.bench.specs.declared.places.Act.{Act}
+use Rattle.bench.specs.declared.places.Act.the-variants.{Set, Run, Complain}
+use Rattle.bench.specs.declared.places.Place.the-variants.{Start}
+use Rattle.bench.specs.declared.rigs.Rig.{Rig}
+use Rattle.bench.proofs.Cuts.{Cut, at-newline, at-both, at-return, at-other, split, lines-cut, rest-within}
+use Rattle.bench.proofs.Onward.{onward, onward-says, onward-other, acted, bad-line}
+use Rattle.bench.proofs.Onward.{ticksAct, pinAct, tickAct, tick-line, edgeAct, edge-line}
+use Rattle.bench.proofs.Parts.{ticks-parts, level-parts}
+use Rattle.bench.proofs.Texts.{textLines, textRig, text-line, text-pump, text-says}
+
+-- between two lines no text is under way
+abbrev idle : Pump → Rig
+idle p = record { pump = p; answered = false }
+
+-- an item is done, and the next line begins
+abbrev done : Pump → Item → List ℕ → List ℕ
+done p i r = itemLines p i ++ onward (idle (pumpAfter p i)) Start r
+
+module _ (p : Pump) (r : List ℕ) where
+  -- ---- ticks
+  run-done : (n : ℕ) → acted (idle p) (Run n) r ≡ done p (ticks n) r
+  unfolding runRig runLines
+  run-done n = go (soundPump p) refl
+    where
+      go : (t : Bool) → soundPump p ≡ t → acted (idle p) (Run n) r ≡ done p (ticks n) r
+      go true e = rw e
+      go false e = rw e
+
+  run-or-none : (t : Bool) (n : ℕ) → acted (idle p) (if t then Run n else Complain) r ≡ done p (if t then ticks n else noItem) r
+  run-or-none true n = run-done n
+  run-or-none false n = refl
+
+  ticks-done : (l : List ℕ) → acted (idle p) (ticksAct 0 l) r ≡ done p (ticksItem l) r
+  unfolding ticksItem
+  ticks-done l =
+      ap (λ (a : Act). acted (idle p) a r) (ticks-parts l)
+      ∙ run-or-none (isNumber l && leb 1 (valueOf l) && leb (valueOf l) 10_000_000) (valueOf l)
+
+  tick-done : (l : List ℕ) → acted (idle p) (tickAct l) r ≡ done p (tickItem l) r
+  tick-done [] = refl
+  tick-done (b ∷ l) = go (eqb b (letter " "))
+    where
+      go :
+          (t : Bool) → acted (idle p) (if t then ticksAct 0 l else Complain) r ≡ done p (if t then ticksItem l else noItem) r
+      go true = ticks-done l
+      go false = refl
+
+  -- ---- a pin and its level
+  set-or-none :
+      (t : Bool) (pin high : ℕ)
+      → acted (idle p) (if t then Set pin high else Complain) r ≡ done p (if t then level pin high else noItem) r
+  unfolding setRig setLines
+  set-or-none true pin high = refl
+  set-or-none false pin high = refl
+
+  level-done : (l : List ℕ) → acted (idle p) (pinAct false 0 l) r ≡ done p (levelItem (upToBlank l) (pastBlank l)) r
+  unfolding levelItem
+  level-done l =
+      let pin = upToBlank l in
+      let high = pastBlank l in
+      ap (λ (a : Act). acted (idle p) a r) (level-parts l)
+      ∙ set-or-none
+        (isNumber pin && isNumber high && leb (valueOf pin) 255 && leb (valueOf high) 255)
+        (valueOf pin)
+        (valueOf high)
+
+  edge-done : (l : List ℕ) → acted (idle p) (edgeAct l) r ≡ done p (edgeItem l) r
+  edge-done [] = refl
+  edge-done (b ∷ l) = go (eqb b (letter " "))
+    where
+      go :
+          (t : Bool)
+          → acted (idle p) (if t then pinAct false 0 l else Complain) r
+          ≡ done p (if t then levelItem (upToBlank l) (pastBlank l) else noItem) r
+      go true = level-done l
+      go false = refl
+
+  -- ---- a text
+  text-done : (l : List ℕ) → textLines (idle p) l ++ onward (textRig (idle p) l) Start r ≡ done p (say l) r
+  text-done l =
+      ap (λ (u : List ℕ). u ++ onward (textRig (idle p) l) Start r) (text-says p l)
+      ∙ ap (λ (g : Rig). itemLines p (say l) ++ onward g Start r) (text-pump (idle p) l)
+
+-- ---- the first byte says what the item is
+first-byte :
+    (p : Pump) (b : ℕ) {s l r : List ℕ}
+    → Cut s l r
+    → (t u v : Bool)
+    → eqb b (letter ">") ≡ t
+    → eqb b (letter "T") ≡ u
+    → eqb b (letter "E") ≡ v
+    → onward (idle p) (kind b) s ≡ done p (itemOf (b ∷ l)) r
+unfolding kind itemOf
+first-byte p b {s} {l} {r} d true u v e f g = rw e (text-line (idle p) d ∙ text-done p r l)
+first-byte p b {s} {l} {r} d false true v e f g = rw (e, f) (tick-line (idle p) d ∙ tick-done p r l)
+first-byte p b {s} {l} {r} d false false true e f g = rw (e, f, g) (edge-line (idle p) d ∙ edge-done p r l)
+first-byte p b {s} {l} {r} d false false false e f g = rw (e, f, g) (bad-line (idle p) d)
+
+-- ---- a line: what its item prints, and then the next line with the pump that the item leaves
+pub line-itemised : (p : Pump) {b : ℕ} {s l r : List ℕ} → Cut (b ∷ s) l r → onward (idle p) Start (b ∷ s) ≡ done p (itemOf l) r
+unfolding onward after itemOf
+line-itemised p (at-newline r) = refl
+line-itemised p (at-both r) = refl
+line-itemised p (at-return s l r h d) = bad-line (idle p) d
+line-itemised p (at-other b s l r e f d) =
+    onward-other (idle p) Start b s e f
+    ∙ first-byte p b d (eqb b (letter ">")) (eqb b (letter "T")) (eqb b (letter "E")) refl refl refl
+
+-- ---- all the lines
+lines-itemised : (k : ℕ) (p : Pump) (s : List ℕ) → length s ≤ k → onward (idle p) Start s ≡ allLines p (linesOf s)
+unfolding onward allLines linesOf
+lines-itemised zero p [] h = refl
+lines-itemised zero p (b ∷ s) h = absurd (omega arith)
+lines-itemised (suc k) p [] h = refl
+lines-itemised (suc k) p (b ∷ s) h =
+    let w = split (b ∷ s) in
+    let i = itemOf (w .line) in
+    line-itemised p (w .cut)
+    ∙ ap
+      (λ (u : List ℕ). itemLines p i ++ u)
+      (lines-itemised k (pumpAfter p i) (w .rest) (let z = rest-within (w .cut) in omega arith))
+    ∙ sym (ap (λ (ls : List (List ℕ)). allLines p ls) (lines-cut (w .cut)))
+
+-- ---- the whole output for every input is that of its lines
+pub itemised : (s : List ℕ) → script s ≡ scriptOf s
+unfolding script scriptOf
+itemised s = onward-says freshBench s ∙ lines-itemised (length s) freshPump s (omega arith)

@@ -1,0 +1,258 @@
+-- What an input prints from a place of a line on, its end included: of an item's line up to its last byte nothing is printed, and
+-- then what the line's acts ask for.
+-- Assumes nothing.
+use Prim.Native.Nat.{ℕ, _+_, _*_, _-_}
+use mathlib.Core.Path.{_≡_, refl, sym, ap, _∙_}
+use mathlib.Core.Logic.{inl}
+use mathlib.Core.Bool.{Bool, true, false}
+use mathlib.Core.List.{List, [], _∷_, _++_, append-assoc, append-nil}
+use lib.Dec.{eqb}
+use Rattle.base.specs.If.{if_then_else_}
+use Rattle.base.specs.Text.{letter}
+use Rattle.base.proofs.Choices.{false-true}
+use Rattle.decimal.specs.Read.{isDigit}
+use Rattle.bench.specs.Items.{atNewline}
+use Rattle.bench.specs.Numbers.{grown, ticksAsked, levelAsked}
+use Rattle.bench.specs.Places.{carriageReturn, newline, inputEnd, next, actOn, after}
+use Rattle.bench.specs.Places.{behindTick, inTicks, behindEdge, pinEnded, inPin, inLevel}
+use Rattle.bench.specs.Rigs.{rigAfter, printed}
+use Rattle.bench.specs.Scripts.{turned, turnSays, played, says, closing}
+use Rattle.bench.specs.declared.feeding.Bench.{Bench}
+use Rattle.bench.specs.declared.places.Act.{Act}
+use Rattle.bench.specs.declared.places.Act.the-variants.{Complain}
+use Rattle.bench.specs.declared.places.Place.{Place}
+use Rattle.bench.specs.declared.places.Place.the-variants.{Start, Tick, Ticks, Edge, Pin, Level, Returned, Bad}
+use Rattle.bench.specs.declared.rigs.Rig.{Rig}
+use Rattle.bench.proofs.Cuts.{Cut, ended, at-newline, at-both, at-return, at-other}
+use Rattle.bench.proofs.Saturating.{Alike, alike-grown, same-verdict}
+
+-- ---- all that is printed from here on
+unfoldable pub onward : Rig → Place → List ℕ → List ℕ
+onward g p [] = printed g (inputEnd p)
+onward g p (b ∷ s) = printed g (after p b .act) ++ onward (rigAfter g (after p b .act)) (after p b .place) s
+
+pub onward-says : (w : Bench) (s : List ℕ) → says w s ++ closing (played w s) ≡ onward (w .rig) (w .place) s
+unfolding says played closing turned turnSays onward
+onward-says w [] = refl
+onward-says w (b ∷ s) =
+    append-assoc (turnSays w b) (says (turned w b) s) (closing (played (turned w b) s))
+    ∙ ap (λ (u : List ℕ). turnSays w b ++ u) (onward-says (turned w b) s)
+
+-- a line is done, and the next one begins
+abbrev pub acted : Rig → Act → List ℕ → List ℕ
+acted g a r = printed g a ++ onward (rigAfter g a) Start r
+
+-- a byte that is neither a newline nor a return
+pub onward-other :
+    (g : Rig) (p : Place) (b : ℕ) (s : List ℕ)
+    → eqb b newline ≡ false
+    → eqb b carriageReturn ≡ false
+    → onward g p (b ∷ s) ≡ printed g (actOn p b) ++ onward (rigAfter g (actOn p b)) (next p b) s
+unfolding onward after
+onward-other g p b s e f = rw (e, f)
+
+-- ---- a line that is no item
+pub bad-line : (g : Rig) {s l r : List ℕ} → Cut s l r → onward g Bad s ≡ acted g Complain r
+unfolding onward after
+bad-line g ended = refl
+bad-line g (at-newline r) = refl
+bad-line g (at-both r) = refl
+bad-line g (at-return s l r h d) = bad-line g d
+bad-line g (at-other b s l r e f d) = onward-other g Bad b s e f ∙ bad-line g d
+
+-- nor is one with a return in it that no newline follows
+returned-line :
+    (g : Rig) (a : Act) {s l r : List ℕ} → atNewline s ≡ false → Cut s l r → onward g (Returned a) s ≡ acted g Complain r
+unfolding onward after
+returned-line g a h ended = refl
+returned-line g a h (at-newline r) = false-true (sym h)
+returned-line g a h (at-both r) = refl
+returned-line g a h (at-return s l r k d) = bad-line g d
+returned-line g a h (at-other b s l r e f d) = onward-other g (Returned a) b s e f ∙ bad-line g d
+
+return-no-digit : isDigit 13 ≡ false
+unfolding isDigit
+return-no-digit = refl
+
+-- ---- what the rest of a line asks for: in the number of a `T`, in a pin's level, in a pin, by plain numbers
+unfoldable pub ticksAct : ℕ → List ℕ → Act
+ticksAct n [] = ticksAsked n
+ticksAct n (b ∷ l) = if isDigit b then ticksAct (n * 10 + (b - 48)) l else Complain
+
+unfoldable pub levelAct : ℕ → Bool → ℕ → List ℕ → Act
+levelAct pin some n [] = levelAsked pin some n
+levelAct pin some n (b ∷ l) = if isDigit b then levelAct pin true (n * 10 + (b - 48)) l else Complain
+
+unfoldable pub pinAct : Bool → ℕ → List ℕ → Act
+pinAct some n [] = Complain
+pinAct some n (b ∷ l) =
+    if isDigit b
+    then pinAct true (n * 10 + (b - 48)) l
+    else if eqb b (letter " ") then (if some then levelAct n false 0 l else Complain) else Complain
+
+-- ---- the number of a `T`
+module _ (g : Rig) where
+  ticks-byte :
+      (n m b : ℕ) {s l r : List ℕ}
+      → Cut s l r
+      → onward g (Ticks (grown n (b - 48))) s ≡ acted g (ticksAct (m * 10 + (b - 48)) l) r
+      → (t : Bool)
+      → isDigit b ≡ t
+      → onward g (inTicks n b) s ≡ acted g (ticksAct m (b ∷ l)) r
+  unfolding inTicks ticksAct
+  ticks-byte n m b d ih true e = rw e ih
+  ticks-byte n m b d ih false e = rw e (bad-line g d)
+
+  pub ticks-line :
+      (n m : ℕ) → Alike n m → {s l r : List ℕ} → Cut s l r → onward g (Ticks n) s ≡ acted g (ticksAct m l) r
+  unfolding onward after ticksAct
+  ticks-line n m k ended = ap (printed g) (same-verdict k .0) ∙ sym (append-nil (printed g (ticksAsked m)))
+  ticks-line n m k (at-newline r) = ap (λ (a : Act). acted g a r) (same-verdict k .0)
+  ticks-line n m k (at-both r) = ap (λ (a : Act). acted g a r) (same-verdict k .0)
+  ticks-line n m k (at-return s l r h d) = rw return-no-digit (returned-line g (ticksAsked n) h d)
+  ticks-line n m k (at-other b s l r e f d) =
+      onward-other g (Ticks n) b s e f
+      ∙ ticks-byte
+        n
+        m
+        b
+        d
+        (ticks-line (grown n (b - 48)) (m * 10 + (b - 48)) (alike-grown n m (b - 48) k) d)
+        (isDigit b)
+        refl
+
+-- ---- the level of a pin
+module _ (g : Rig) (pin pin′ : ℕ) (like : Alike pin pin′) where
+  level-byte :
+      (some : Bool) (n m b : ℕ) {s l r : List ℕ}
+      → Cut s l r
+      → onward g (Level pin true (grown n (b - 48))) s ≡ acted g (levelAct pin′ true (m * 10 + (b - 48)) l) r
+      → (t : Bool)
+      → isDigit b ≡ t
+      → onward g (inLevel pin n b) s ≡ acted g (levelAct pin′ some m (b ∷ l)) r
+  unfolding inLevel levelAct
+  level-byte some n m b d ih true e = rw e ih
+  level-byte some n m b d ih false e = rw e (bad-line g d)
+
+  pub level-line :
+      (some : Bool) (n m : ℕ)
+      → Alike n m
+      → {s l r : List ℕ}
+      → Cut s l r
+      → onward g (Level pin some n) s ≡ acted g (levelAct pin′ some m l) r
+  unfolding onward after levelAct
+  level-line some n m k ended =
+      ap (printed g) (same-verdict k .1 pin pin′ some like) ∙ sym (append-nil (printed g (levelAsked pin′ some m)))
+  level-line some n m k (at-newline r) = ap (λ (a : Act). acted g a r) (same-verdict k .1 pin pin′ some like)
+  level-line some n m k (at-both r) = ap (λ (a : Act). acted g a r) (same-verdict k .1 pin pin′ some like)
+  level-line some n m k (at-return s l r h d) = rw return-no-digit (returned-line g (levelAsked pin some n) h d)
+  level-line some n m k (at-other b s l r e f d) =
+      onward-other g (Level pin some n) b s e f
+      ∙ level-byte
+        some
+        n
+        m
+        b
+        d
+        (level-line true (grown n (b - 48)) (m * 10 + (b - 48)) (alike-grown n m (b - 48) k) d)
+        (isDigit b)
+        refl
+
+-- ---- a pin
+module _ (g : Rig) where
+  pin-blank :
+      (some : Bool) (n m : ℕ)
+      → Alike n m
+      → {s l r : List ℕ}
+      → Cut s l r
+      → onward g (pinEnded some n) s ≡ acted g (if some then levelAct m false 0 l else Complain) r
+  unfolding pinEnded
+  pin-blank true n m k d = level-line g n m k false 0 0 (inl refl) d
+  pin-blank false n m k d = bad-line g d
+
+  pin-byte :
+      (some : Bool) (n m b : ℕ)
+      → Alike n m
+      → {s l r : List ℕ}
+      → Cut s l r
+      → onward g (Pin true (grown n (b - 48))) s ≡ acted g (pinAct true (m * 10 + (b - 48)) l) r
+      → (t u : Bool)
+      → isDigit b ≡ t
+      → eqb b (letter " ") ≡ u
+      → onward g (inPin some n b) s ≡ acted g (pinAct some m (b ∷ l)) r
+  unfolding inPin pinAct
+  pin-byte some n m b k d ih true u e f = rw e ih
+  pin-byte some n m b k d ih false true e f = rw (e, f) (pin-blank some n m k d)
+  pin-byte some n m b k d ih false false e f = rw (e, f) (bad-line g d)
+
+  pub pin-line :
+      (some : Bool) (n m : ℕ)
+      → Alike n m
+      → {s l r : List ℕ}
+      → Cut s l r
+      → onward g (Pin some n) s ≡ acted g (pinAct some m l) r
+  unfolding onward after pinAct
+  pin-line some n m k ended = refl
+  pin-line some n m k (at-newline r) = refl
+  pin-line some n m k (at-both r) = refl
+  pin-line some n m k (at-return s l r h d) = rw return-no-digit (bad-line g d)
+  pin-line some n m k (at-other b s l r e f d) =
+      onward-other g (Pin some n) b s e f
+      ∙ pin-byte
+        some
+        n
+        m
+        b
+        k
+        d
+        (pin-line true (grown n (b - 48)) (m * 10 + (b - 48)) (alike-grown n m (b - 48) k) d)
+        (isDigit b)
+        (eqb b (letter " "))
+        refl
+        refl
+
+-- ---- behind a `T` and behind an `E`: one blank
+abbrev pub tickAct : List ℕ → Act
+tickAct [] = Complain
+tickAct (b ∷ l) = if eqb b (letter " ") then ticksAct 0 l else Complain
+
+abbrev pub edgeAct : List ℕ → Act
+edgeAct [] = Complain
+edgeAct (b ∷ l) = if eqb b (letter " ") then pinAct false 0 l else Complain
+
+module _ (g : Rig) where
+  tick-byte :
+      (b : ℕ) {s l r : List ℕ}
+      → Cut s l r
+      → (t : Bool)
+      → eqb b (letter " ") ≡ t
+      → onward g (behindTick b) s ≡ acted g (tickAct (b ∷ l)) r
+  unfolding behindTick
+  tick-byte b d true e = rw e (ticks-line g 0 0 (inl refl) d)
+  tick-byte b d false e = rw e (bad-line g d)
+
+  pub tick-line : {s l r : List ℕ} → Cut s l r → onward g Tick s ≡ acted g (tickAct l) r
+  unfolding onward after
+  tick-line ended = refl
+  tick-line (at-newline r) = refl
+  tick-line (at-both r) = refl
+  tick-line (at-return s l r h d) = bad-line g d
+  tick-line (at-other b s l r e f d) = onward-other g Tick b s e f ∙ tick-byte b d (eqb b (letter " ")) refl
+
+  edge-byte :
+      (b : ℕ) {s l r : List ℕ}
+      → Cut s l r
+      → (t : Bool)
+      → eqb b (letter " ") ≡ t
+      → onward g (behindEdge b) s ≡ acted g (edgeAct (b ∷ l)) r
+  unfolding behindEdge
+  edge-byte b d true e = rw e (pin-line g false 0 0 (inl refl) d)
+  edge-byte b d false e = rw e (bad-line g d)
+
+  pub edge-line : {s l r : List ℕ} → Cut s l r → onward g Edge s ≡ acted g (edgeAct l) r
+  unfolding onward after
+  edge-line ended = refl
+  edge-line (at-newline r) = refl
+  edge-line (at-both r) = refl
+  edge-line (at-return s l r h d) = bad-line g d
+  edge-line (at-other b s l r e f d) = onward-other g Edge b s e f ∙ edge-byte b d (eqb b (letter " ")) refl

@@ -1,0 +1,146 @@
+-- A text: its bytes are sent as they come, a return once it shows that no newline follows, and in the end that is what was asked.
+-- Assumes nothing.
+use Prim.Native.Nat.{ℕ}
+use mathlib.Core.Path.{_≡_, refl, sym, ap, _∙_}
+use mathlib.Core.Bool.{Bool, true, false, _||_}
+use mathlib.Core.List.{List, [], _∷_, _++_, append-assoc, append-nil}
+use lib.Dec.{eqb}
+use Rattle.base.specs.If.{if_then_else_}
+use Rattle.base.proofs.Choices.{false-true}
+use Rattle.pump.specs.declared.holder.Pump.{Pump}
+use Rattle.bench.specs.Items.{atNewline, sent, answers, orEmptyLine}
+use Rattle.bench.specs.Places.{carriageReturn, newline, after}
+use Rattle.bench.specs.Printing.{complaintLine, framed}
+use Rattle.bench.specs.Rigs.{isRefused, reportOn, bufferOn, answerLine}
+use Rattle.bench.specs.Rigs.{sentRig, sentLine, sendRig, sendLines, finishRig, finishLines}
+use Rattle.bench.specs.declared.places.Place.the-variants.{Start, Text}
+use Rattle.bench.specs.declared.rigs.Rig.{Rig}
+use Rattle.bench.proofs.Cuts.{Cut, ended, at-newline, at-both, at-return, at-other}
+use Rattle.bench.proofs.Onward.{onward, onward-other}
+
+-- ---- the rest of a text, sent to a rig, and its end
+unfoldable pub textLines : Rig → List ℕ → List ℕ
+textLines g [] = finishLines g false
+textLines g (b ∷ l) = sentLine g b ++ textLines (sentRig g b) l
+
+unfoldable pub textRig : Rig → List ℕ → Rig
+textRig g [] = finishRig g false
+textRig g (b ∷ l) = textRig (sentRig g b) l
+
+-- a return that was held back is sent, where no newline follows
+return-sent :
+    (g : Rig) {s l r : List ℕ}
+    → atNewline s ≡ false
+    → Cut s l r
+    → onward g (Text true) s ≡ sentLine g 13 ++ onward (sentRig g 13) (Text false) s
+unfolding onward after sendRig sendLines finishLines
+return-sent g h ended =
+    append-assoc
+    (sentLine g 13)
+    (sentLine (sentRig g 13) 13)
+    (if sentRig (sentRig g 13) 13 .answered then [] else newline ∷ [])
+return-sent g h (at-newline r) = false-true (sym h)
+return-sent g h (at-both r) = refl
+return-sent g h (at-return s l r k d) = refl
+return-sent g h (at-other b s l r e f d) =
+    onward-other g (Text true) b s e f
+    ∙ append-assoc (sentLine g 13) (sentLine (sentRig g 13) b) (onward (sentRig (sentRig g 13) b) (Text false) s)
+    ∙ ap (λ (u : List ℕ). sentLine g 13 ++ u) (sym (onward-other (sentRig g 13) (Text false) b s e f))
+
+pub text-line :
+    (g : Rig) {s l r : List ℕ} → Cut s l r → onward g (Text false) s ≡ textLines g l ++ onward (textRig g l) Start r
+unfolding onward after sendRig sendLines textLines textRig
+text-line g ended = sym (append-nil (finishLines g false))
+text-line g (at-newline r) = refl
+text-line g (at-both r) = refl
+text-line g (at-return s l r h d) =
+    return-sent g h d
+    ∙ ap (λ (u : List ℕ). sentLine g 13 ++ u) (text-line (sentRig g 13) d)
+    ∙ sym (append-assoc (sentLine g 13) (textLines (sentRig g 13) l) (onward (textRig (sentRig g 13) l) Start r))
+text-line g (at-other b s l r e f d) =
+    onward-other g (Text false) b s e f
+    ∙ ap (λ (u : List ℕ). sentLine g b ++ u) (text-line (sentRig g b) d)
+    ∙ sym (append-assoc (sentLine g b) (textLines (sentRig g b) l) (onward (textRig (sentRig g b) l) Start r))
+
+-- ---- the pump in the end
+pub text-pump :
+    (g : Rig) (l : List ℕ) → textRig g l ≡ record { pump = sent (g .pump) (l ++ (carriageReturn ∷ [])); answered = false }
+unfolding textRig sent finishRig sendRig sentRig
+text-pump g [] = refl
+text-pump g (b ∷ l) = text-pump (sentRig g b) l
+
+-- ---- whether there was an answer
+abbrev some : List ℕ → Bool
+some [] = false
+some (b ∷ s) = true
+
+some-append : (s t : List ℕ) → some (s ++ t) ≡ (some s || some t)
+some-append [] t = refl
+some-append (b ∷ s) t = refl
+
+some-line : (s : List ℕ) → some (s ++ (newline ∷ [])) ≡ true
+some-line [] = refl
+some-line (b ∷ s) = refl
+
+or-true : (t : Bool) → (t || true) ≡ true
+or-true true = refl
+or-true false = refl
+
+or-false : (t : Bool) → (t || false) ≡ t
+or-false true = refl
+or-false false = refl
+
+or-assoc : (t u v : Bool) → (t || u || v) ≡ (t || (u || v))
+or-assoc true u v = refl
+or-assoc false u v = refl
+
+told :
+    (refused none was : Bool) (line : List ℕ)
+    → (if refused then true else if none then was else true)
+    ≡ (was || some (if refused then complaintLine else if none then [] else line ++ (newline ∷ [])))
+told true none was line = sym (or-true was)
+told false true was line = sym (or-false was)
+told false false was line = rw (some-line line) (sym (or-true was))
+
+answered-told : (g : Rig) (b : ℕ) → sentRig g b .answered ≡ (g .answered || some (sentLine g b))
+unfolding sentRig sentLine answerLine
+answered-told g b =
+    told
+    (isRefused (reportOn (g .pump) b .refusal))
+    (eqb (reportOn (g .pump) b .length) 0)
+    (g .answered)
+    (framed (reportOn (g .pump) b .length) (bufferOn (g .pump) b))
+
+-- ---- what is printed
+abbrev emptyUnless : Bool → List ℕ
+emptyUnless t = if t then [] else newline ∷ []
+
+text-answers :
+    (g : Rig) (l : List ℕ)
+    → textLines g l
+    ≡ answers (g .pump) (l ++ (carriageReturn ∷ []))
+    ++ emptyUnless (g .answered || some (answers (g .pump) (l ++ (carriageReturn ∷ []))))
+unfolding textLines finishLines sendLines sendRig answers
+text-answers g [] =
+    ap (λ (t : Bool). sentLine g 13 ++ emptyUnless t) (answered-told g 13)
+    ∙ ap
+      (λ (u : List ℕ). u ++ emptyUnless (g .answered || some u))
+      (sym (append-nil (sentLine g 13)))
+text-answers g (b ∷ l) =
+    let more = answers (sentRig g b .pump) (l ++ (carriageReturn ∷ [])) in
+    ap (λ (u : List ℕ). sentLine g b ++ u) (text-answers (sentRig g b) l)
+    ∙ ap (λ (t : Bool). sentLine g b ++ (more ++ emptyUnless (t || some more))) (answered-told g b)
+    ∙ ap
+      (λ (t : Bool). sentLine g b ++ (more ++ emptyUnless t))
+      (or-assoc (g .answered) (some (sentLine g b)) (some more)
+      ∙ ap (λ (t : Bool). g .answered || t) (sym (some-append (sentLine g b) more)))
+    ∙ sym (append-assoc (sentLine g b) more (emptyUnless (g .answered || some (sentLine g b ++ more))))
+
+or-empty : (s : List ℕ) → s ++ emptyUnless (some s) ≡ orEmptyLine s
+or-empty [] = refl
+or-empty (b ∷ s) = append-nil (b ∷ s)
+
+pub text-says :
+    (p : Pump) (l : List ℕ)
+    → textLines (record { pump = p; answered = false }) l ≡ orEmptyLine (answers p (l ++ (carriageReturn ∷ [])))
+text-says p l = text-answers (record { pump = p; answered = false }) l ∙ or-empty (answers p (l ++ (carriageReturn ∷ [])))

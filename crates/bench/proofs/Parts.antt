@@ -18,25 +18,26 @@ use Rattle.bench.specs.declared.places.Act.the-variants.{Set, Run, Compl
 use Rattle.bench.proofs.Onward.{ticksAct, levelAct, pinAct}
 
 -- ---- choices within choices
-both : (t u : Bool) {x y : Act} → (if t then (if u then x else y) else y) ≡ (if t && u then x else y)
-both true u = refl
-both false u = refl
+both : (t u : Bool) (x y : Act) → (if t then (if u then x else y) else y) ≡ (if t && u then x else y)
+both true u x y = refl
+both false u x y = refl
 
-both-two : (t u v : Bool) {x y : Act} → (if t then (if u && v then x else y) else y) ≡ (if t && u && v then x else y)
-both-two true u v = refl
-both-two false u v = refl
+both-two : (t u v : Bool) (x y : Act) → (if t then (if u && v then x else y) else y) ≡ (if t && u && v then x else y)
+both-two true u v x y = refl
+both-two false u v x y = refl
 
 both-three :
-    (t u v w : Bool) {x y : Act} → (if t then (if u && v && w then x else y) else y) ≡ (if t && u && v && w then x else y)
-both-three true u v w = refl
-both-three false u v w = refl
+    (t u v w : Bool) (x y : Act) → (if t then (if u && v && w then x else y) else y) ≡ (if t && u && v && w then x else y)
+both-three true u v w x y = refl
+both-three false u v w x y = refl
 
 -- ---- `T n`
 ticks-digits : (n : ℕ) (l : List ℕ) → ticksAct n l ≡ (if onlyDigits l then ticksAsked (valueFrom n l) else Complain)
 unfolding ticksAct
 ticks-digits n [] = refl
 ticks-digits n (b ∷ l) =
-    ap (λ (a : Act). if isDigit b then a else Complain) (ticks-digits (n * 10 + (b - 48)) l) ∙ both (isDigit b) (onlyDigits l)
+    ap (λ (a : Act). if isDigit b then a else Complain) (ticks-digits (n * 10 + (b - 48)) l)
+    ∙ both (isDigit b) (onlyDigits l) (ticksAsked (valueFrom n (b ∷ l))) Complain
 
 pub ticks-parts :
     (l : List ℕ)
@@ -46,7 +47,7 @@ unfolding ticksAct ticksAsked
 ticks-parts [] = refl
 ticks-parts (b ∷ l) =
     ticks-digits 0 (b ∷ l)
-    ∙ both-two (isNumber (b ∷ l)) (leb 1 (valueOf (b ∷ l))) (leb (valueOf (b ∷ l)) 10_000_000)
+    ∙ both-two (isNumber (b ∷ l)) (leb 1 (valueOf (b ∷ l))) (leb (valueOf (b ∷ l)) 10_000_000) (Run (valueOf (b ∷ l))) Complain
 
 -- ---- a level
 abbrev setAct : ℕ → ℕ → Act
@@ -57,14 +58,16 @@ level-digits :
 unfolding levelAct levelAsked
 level-digits pin n [] = refl
 level-digits pin n (b ∷ l) =
-    ap (λ (a : Act). if isDigit b then a else Complain) (level-digits pin (n * 10 + (b - 48)) l) ∙ both (isDigit b) (onlyDigits l)
+    ap (λ (a : Act). if isDigit b then a else Complain) (level-digits pin (n * 10 + (b - 48)) l)
+    ∙ both (isDigit b) (onlyDigits l) (setAct pin (valueFrom n (b ∷ l))) Complain
 
 level-number :
     (pin : ℕ) (l : List ℕ) → levelAct pin false 0 l ≡ (if isNumber l then setAct pin (valueOf l) else Complain)
 unfolding levelAct levelAsked
 level-number pin [] = refl
 level-number pin (b ∷ l) =
-    ap (λ (a : Act). if isDigit b then a else Complain) (level-digits pin (0 * 10 + (b - 48)) l) ∙ both (isDigit b) (onlyDigits l)
+    ap (λ (a : Act). if isDigit b then a else Complain) (level-digits pin (0 * 10 + (b - 48)) l)
+    ∙ both (isDigit b) (onlyDigits l) (setAct pin (valueOf (b ∷ l))) Complain
 
 -- ---- a pin and its level
 digit-no-blank : (b : ℕ) → isDigit b ≡ true → eqb b (letter " ") ≡ false
@@ -127,9 +130,10 @@ pub level-parts :
 level-parts s =
     let pin = upToBlank s in
     let high = pastBlank s in
+    let set : Act = Set (valueOf pin) (valueOf high) in
     pin-number s
     ∙ ap (λ (a : Act). if isNumber pin then a else Complain) (level-number (valueOf pin) high)
     ∙ ap
       (λ (a : Act). if isNumber pin then a else Complain)
-      (both-two (isNumber high) (leb (valueOf pin) 255) (leb (valueOf high) 255))
-    ∙ both-three (isNumber pin) (isNumber high) (leb (valueOf pin) 255) (leb (valueOf high) 255)
+      (both-two (isNumber high) (leb (valueOf pin) 255) (leb (valueOf high) 255) set Complain)
+    ∙ both-three (isNumber pin) (isNumber high) (leb (valueOf pin) 255) (leb (valueOf high) 255) set Complain

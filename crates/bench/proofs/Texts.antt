@@ -120,7 +120,7 @@ text-answers :
     → textLines g l
     ≡ answers (g .pump) (l ++ (carriageReturn ∷ []))
     ++ emptyUnless (g .answered || some (answers (g .pump) (l ++ (carriageReturn ∷ []))))
-unfolding textLines finishLines sendLines sendRig answers
+unfolding textLines finishLines sendLines sendRig sentRig sentLine answers
 text-answers g [] =
     ap (λ (t : Bool). sentLine g 13 ++ emptyUnless t) (answered-told g 13)
     ∙ ap

@@ -2,17 +2,17 @@
 -- Assumes nothing.
 use Prim.Native.Nat.{ℕ, zero, suc, _≤_}
 use mathlib.Core.Path.{_≡_, refl, sym, ap, _∙_}
-use mathlib.Core.Bool.{Bool, true, false, _&&_}
+use mathlib.Core.Bool.{Bool, true, false}
 use mathlib.Core.List.{List, [], _∷_, _++_}
 use native.Mathlib.Omega.{arith}
-use lib.Dec.{eqb, leb}
+use lib.Dec.{eqb}
 use lib.ListN.{length}
 use Rattle.base.specs.If.{if_then_else_}
 use Rattle.base.specs.Text.{letter}
 use Rattle.pump.specs.Holder.{freshPump, soundPump}
 use Rattle.pump.specs.declared.holder.Pump.{Pump}
 use Rattle.bench.specs.Items.{Item, say, level, ticks, noItem, ticksItem, levelItem, tickItem, edgeItem, itemOf}
-use Rattle.bench.specs.Items.{isNumber, valueOf, upToBlank, pastBlank}
+use Rattle.bench.specs.Items.{valueOf, upToBlank, pastBlank}
 use Rattle.bench.specs.Items.{itemLines, pumpAfter, linesOf, allLines, scriptOf}
 use Rattle.bench.specs.Places.{after, kind}
 use Rattle.bench.specs.Rigs.{setRig, setLines, runRig, runLines}
@@ -24,7 +24,7 @@ use Rattle.bench.specs.declared.rigs.Rig.{Rig}
 use Rattle.bench.proofs.Cuts.{Cut, at-newline, at-both, at-return, at-other, split, lines-cut, rest-within}
 use Rattle.bench.proofs.Onward.{onward, onward-says, onward-other, acted, bad-line}
 use Rattle.bench.proofs.Onward.{ticksAct, pinAct, tickAct, tick-line, edgeAct, edge-line}
-use Rattle.bench.proofs.Parts.{ticks-parts, level-parts}
+use Rattle.bench.proofs.Parts.{ticksTest, ticks-parts, levelTest, level-parts}
 use Rattle.bench.proofs.Texts.{textLines, textRig, text-line, text-pump, text-says}
 
 -- between two lines no text is under way
@@ -53,7 +53,7 @@ module _ (p : Pump) (r : List ℕ) where
   unfolding ticksItem
   ticks-done l =
       ap (λ (a : Act). acted (idle p) a r) (ticks-parts l)
-      ∙ run-or-none (isNumber l && leb 1 (valueOf l) && leb (valueOf l) 10_000_000) (valueOf l)
+      ∙ run-or-none (ticksTest l) (valueOf l)
 
   tick-done : (l : List ℕ) → acted (idle p) (tickAct l) r ≡ done p (tickItem l) r
   tick-done [] = refl
@@ -75,13 +75,8 @@ module _ (p : Pump) (r : List ℕ) where
   level-done : (l : List ℕ) → acted (idle p) (pinAct false 0 l) r ≡ done p (levelItem (upToBlank l) (pastBlank l)) r
   unfolding levelItem
   level-done l =
-      let pin = upToBlank l in
-      let high = pastBlank l in
       ap (λ (a : Act). acted (idle p) a r) (level-parts l)
-      ∙ set-or-none
-        (isNumber pin && isNumber high && leb (valueOf pin) 255 && leb (valueOf high) 255)
-        (valueOf pin)
-        (valueOf high)
+      ∙ set-or-none (levelTest (upToBlank l) (pastBlank l)) (valueOf (upToBlank l)) (valueOf (pastBlank l))
 
   edge-done : (l : List ℕ) → acted (idle p) (edgeAct l) r ≡ done p (edgeItem l) r
   edge-done [] = refl
@@ -136,8 +131,8 @@ lines-itemised (suc k) p (b ∷ s) h =
     let i = itemOf (w .line) in
     line-itemised p (w .cut)
     ∙ ap
-      (λ (u : List ℕ). itemLines p i ++ u)
-      (lines-itemised k (pumpAfter p i) (w .rest) (let z = rest-within (w .cut) in omega arith))
+    (λ (u : List ℕ). itemLines p i ++ u)
+    (lines-itemised k (pumpAfter p i) (w .rest) (let z = rest-within (w .cut) in omega arith))
     ∙ sym (ap (λ (ls : List (List ℕ)). allLines p ls) (lines-cut (w .cut)))
 
 -- ---- the whole output for every input is that of its lines

@@ -113,13 +113,13 @@ module _ (g : Rig) where
   ticks-line n m k (at-other b s l r e f d) =
       onward-other g (Ticks n) b s e f
       ∙ ticks-byte
-        n
-        m
-        b
-        d
-        (ticks-line (grown n (b - 48)) (m * 10 + (b - 48)) (alike-grown n m (b - 48) k) d)
-        (isDigit b)
-        refl
+      n
+      m
+      b
+      d
+      (ticks-line (grown n (b - 48)) (m * 10 + (b - 48)) (alike-grown n m (b - 48) k) d)
+      (isDigit b)
+      refl
 
 -- ---- the level of a pin
 module _ (g : Rig) (pin pin′ : ℕ) (like : Alike pin pin′) where
@@ -149,14 +149,14 @@ module _ (g : Rig) (pin pin′ : ℕ) (like : Alike pin pin′) where
   level-line some n m k (at-other b s l r e f d) =
       onward-other g (Level pin some n) b s e f
       ∙ level-byte
-        some
-        n
-        m
-        b
-        d
-        (level-line true (grown n (b - 48)) (m * 10 + (b - 48)) (alike-grown n m (b - 48) k) d)
-        (isDigit b)
-        refl
+      some
+      n
+      m
+      b
+      d
+      (level-line true (grown n (b - 48)) (m * 10 + (b - 48)) (alike-grown n m (b - 48) k) d)
+      (isDigit b)
+      refl
 
 -- ---- a pin
 module _ (g : Rig) where
@@ -199,17 +199,17 @@ module _ (g : Rig) where
   pin-line some n m k (at-other b s l r e f d) =
       onward-other g (Pin some n) b s e f
       ∙ pin-byte
-        some
-        n
-        m
-        b
-        k
-        d
-        (pin-line true (grown n (b - 48)) (m * 10 + (b - 48)) (alike-grown n m (b - 48) k) d)
-        (isDigit b)
-        (eqb b (letter " "))
-        refl
-        refl
+      some
+      n
+      m
+      b
+      k
+      d
+      (pin-line true (grown n (b - 48)) (m * 10 + (b - 48)) (alike-grown n m (b - 48) k) d)
+      (isDigit b)
+      (eqb b (letter " "))
+      refl
+      refl
 
 -- ---- behind a `T` and behind an `E`: one blank
 abbrev pub tickAct : List ℕ → Act

@@ -1,7 +1,7 @@
 -- What a line of digits and blanks asks for, byte by byte, is what its parts say.
 -- Assumes nothing.
 use Prim.Native.Nat.{ℕ, _+_, _*_, _-_}
-use mathlib.Core.Path.{_≡_, refl, sym, ap, _∙_}
+use mathlib.Core.Path.{_≡_, refl, ap, _∙_}
 use mathlib.Core.Bool.{Bool, true, false, _&&_}
 use mathlib.Core.List.{List, [], _∷_}
 use native.Mathlib.Omega.{arith}
@@ -12,7 +12,7 @@ use Rattle.base.specs.Text.{letter}
 use Rattle.base.proofs.Choices.{and-left}
 use Rattle.decimal.specs.Read.{isDigit}
 use Rattle.bench.specs.Items.{onlyDigits, isNumber, valueFrom, valueOf, upToBlank, pastBlank}
-use Rattle.bench.specs.Numbers.{ticksAsked, levelAsked}
+use Rattle.bench.specs.Numbers.{mostTicks, mostByte, ticksAsked, levelAsked}
 use Rattle.bench.specs.declared.places.Act.{Act}
 use Rattle.bench.specs.declared.places.Act.the-variants.{Set, Run, Complain}
 use Rattle.bench.proofs.Onward.{ticksAct, levelAct, pinAct}
@@ -39,19 +39,19 @@ ticks-digits n (b ∷ l) =
     ap (λ (a : Act). if isDigit b then a else Complain) (ticks-digits (n * 10 + (b - 48)) l)
     ∙ both (isDigit b) (onlyDigits l) (ticksAsked (valueFrom n (b ∷ l))) Complain
 
-pub ticks-parts :
-    (l : List ℕ)
-    → ticksAct 0 l
-    ≡ (if isNumber l && leb 1 (valueOf l) && leb (valueOf l) 10_000_000 then Run (valueOf l) else Complain)
+abbrev pub ticksTest : List ℕ → Bool
+ticksTest l = isNumber l && leb 1 (valueOf l) && leb (valueOf l) mostTicks
+
+pub ticks-parts : (l : List ℕ) → ticksAct 0 l ≡ (if ticksTest l then Run (valueOf l) else Complain)
 unfolding ticksAct ticksAsked
 ticks-parts [] = refl
 ticks-parts (b ∷ l) =
     ticks-digits 0 (b ∷ l)
-    ∙ both-two (isNumber (b ∷ l)) (leb 1 (valueOf (b ∷ l))) (leb (valueOf (b ∷ l)) 10_000_000) (Run (valueOf (b ∷ l))) Complain
+    ∙ both-two (isNumber (b ∷ l)) (leb 1 (valueOf (b ∷ l))) (leb (valueOf (b ∷ l)) mostTicks) (Run (valueOf (b ∷ l))) Complain
 
 -- ---- a level
 abbrev setAct : ℕ → ℕ → Act
-setAct pin n = if leb pin 255 && leb n 255 then Set pin n else Complain
+setAct pin n = if leb pin mostByte && leb n mostByte then Set pin n else Complain
 
 level-digits :
     (pin n : ℕ) (l : List ℕ) → levelAct pin true n l ≡ (if onlyDigits l then setAct pin (valueFrom n l) else Complain)
@@ -89,12 +89,12 @@ pin-digits n (b ∷ s) = go (isDigit b) (eqb b (letter " ")) refl refl (pin-digi
         → eqb b (letter " ") ≡ u
         → pinAct true (n * 10 + (b - 48)) s
         ≡ (if onlyDigits (upToBlank s)
-          then levelAct (valueFrom (n * 10 + (b - 48)) (upToBlank s)) false 0 (pastBlank s)
-          else Complain)
+        then levelAct (valueFrom (n * 10 + (b - 48)) (upToBlank s)) false 0 (pastBlank s)
+        else Complain)
         → pinAct true n (b ∷ s)
         ≡ (if onlyDigits (upToBlank (b ∷ s))
-          then levelAct (valueFrom n (upToBlank (b ∷ s))) false 0 (pastBlank (b ∷ s))
-          else Complain)
+        then levelAct (valueFrom n (upToBlank (b ∷ s))) false 0 (pastBlank (b ∷ s))
+        else Complain)
     go true u e f ih = rw (e, digit-no-blank b e) (rw e ih)
     go false true e f ih = rw (e, f)
     go false false e f ih = rw (f, e)
@@ -112,21 +112,19 @@ pin-number (b ∷ s) = go (isDigit b) (eqb b (letter " ")) refl refl
         → eqb b (letter " ") ≡ u
         → pinAct false 0 (b ∷ s)
         ≡ (if isNumber (upToBlank (b ∷ s))
-          then levelAct (valueOf (upToBlank (b ∷ s))) false 0 (pastBlank (b ∷ s))
-          else Complain)
+        then levelAct (valueOf (upToBlank (b ∷ s))) false 0 (pastBlank (b ∷ s))
+        else Complain)
     go true u e f = rw (e, digit-no-blank b e) (rw e (pin-digits (0 * 10 + (b - 48)) s))
     go false true e f = rw (e, f)
     go false false e f = rw (f, e)
 
+abbrev pub levelTest : List ℕ → List ℕ → Bool
+levelTest pin high = isNumber pin && isNumber high && leb (valueOf pin) mostByte && leb (valueOf high) mostByte
+
 pub level-parts :
     (s : List ℕ)
     → pinAct false 0 s
-    ≡ (if isNumber (upToBlank s)
-        && isNumber (pastBlank s)
-        && leb (valueOf (upToBlank s)) 255
-        && leb (valueOf (pastBlank s)) 255
-      then Set (valueOf (upToBlank s)) (valueOf (pastBlank s))
-      else Complain)
+    ≡ (if levelTest (upToBlank s) (pastBlank s) then Set (valueOf (upToBlank s)) (valueOf (pastBlank s)) else Complain)
 level-parts s =
     let pin = upToBlank s in
     let high = pastBlank s in
@@ -134,6 +132,6 @@ level-parts s =
     pin-number s
     ∙ ap (λ (a : Act). if isNumber pin then a else Complain) (level-number (valueOf pin) high)
     ∙ ap
-      (λ (a : Act). if isNumber pin then a else Complain)
-      (both-two (isNumber high) (leb (valueOf pin) 255) (leb (valueOf high) 255) set Complain)
-    ∙ both-three (isNumber pin) (isNumber high) (leb (valueOf pin) 255) (leb (valueOf high) 255) set Complain
+    (λ (a : Act). if isNumber pin then a else Complain)
+    (both-two (isNumber high) (leb (valueOf pin) mostByte) (leb (valueOf high) mostByte) set Complain)
+    ∙ both-three (isNumber pin) (isNumber high) (leb (valueOf pin) mostByte) (leb (valueOf high) mostByte) set Complain

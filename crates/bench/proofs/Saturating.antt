@@ -1,15 +1,14 @@
 -- A number that stops growing once it is too large asks for the same as the plain number.
 -- Assumes nothing.
 use Prim.Native.Nat.{ℕ, _+_, _*_, _<_, _≤_}
-use mathlib.Core.Path.{_≡_, refl, sym, ap, _∙_}
+use mathlib.Core.Path.{_≡_, sym, ap, _∙_}
 use mathlib.Core.Logic.{_⊎_, inl, inr}
-use mathlib.Core.Bool.{Bool, true, false, _&&_}
+use mathlib.Core.Bool.{Bool, _&&_}
 use native.Mathlib.Omega.{arith}
 use lib.Dec.{leb}
 use borrow.Author.Tests.{lt-leb}
 use Rattle.base.proofs.Choices.{and-false, within}
 use Rattle.bench.specs.Numbers.{mostTicks, mostByte, grown, ticksAsked, levelAsked}
-use Rattle.bench.specs.declared.places.Act.{Act}
 use Rattle.bench.specs.declared.places.Act.the-variants.{Complain}
 use Rattle.bench.proofs.Asking.{grown-past, grown-by, ticks-none, level-none}
 

@@ -124,16 +124,16 @@ unfolding textLines finishLines sendLines sendRig sentRig sentLine answers
 text-answers g [] =
     ap (λ (t : Bool). sentLine g 13 ++ emptyUnless t) (answered-told g 13)
     ∙ ap
-      (λ (u : List ℕ). u ++ emptyUnless (g .answered || some u))
-      (sym (append-nil (sentLine g 13)))
+    (λ (u : List ℕ). u ++ emptyUnless (g .answered || some u))
+    (sym (append-nil (sentLine g 13)))
 text-answers g (b ∷ l) =
     let more = answers (sentRig g b .pump) (l ++ (carriageReturn ∷ [])) in
     ap (λ (u : List ℕ). sentLine g b ++ u) (text-answers (sentRig g b) l)
     ∙ ap (λ (t : Bool). sentLine g b ++ (more ++ emptyUnless (t || some more))) (answered-told g b)
     ∙ ap
-      (λ (t : Bool). sentLine g b ++ (more ++ emptyUnless t))
-      (or-assoc (g .answered) (some (sentLine g b)) (some more)
-      ∙ ap (λ (t : Bool). g .answered || t) (sym (some-append (sentLine g b) more)))
+    (λ (t : Bool). sentLine g b ++ (more ++ emptyUnless t))
+    (or-assoc (g .answered) (some (sentLine g b)) (some more)
+    ∙ ap (λ (t : Bool). g .answered || t) (sym (some-append (sentLine g b) more)))
     ∙ sym (append-assoc (sentLine g b) more (emptyUnless (g .answered || some (sentLine g b ++ more))))
 
 or-empty : (s : List ℕ) → s ++ emptyUnless (some s) ≡ orEmptyLine s

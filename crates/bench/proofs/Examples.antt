@@ -1,7 +1,6 @@
 -- Inputs and their lines, lines and their items, computed from the definitions.   (01, Marked figures: the bench program;
 -- docs/DECISIONS.md, 29 to 31)
 use Prim.Native.Nat.{ℕ}
-use Prim.Native.String.{String}
 use mathlib.Core.Path.{refl}
 use mathlib.Core.List.{List, [], _∷_, _++_}
 use Rattle.base.specs.Rows.{Gives}

@@ -3,7 +3,7 @@
 use Prim.Native.Nat.{ℕ, zero, suc, _≤_}
 use mathlib.Core.Path.{_≡_, refl, sym, ap, _∙_}
 use mathlib.Core.Bool.{Bool, true, false}
-use mathlib.Core.List.{List, [], _∷_, _++_}
+use mathlib.Core.List.{List, [], _∷_, _++_, append-nil}
 use native.Mathlib.Omega.{arith}
 use lib.Dec.{eqb}
 use lib.ListN.{length}
@@ -13,27 +13,35 @@ use Rattle.pump.specs.Holder.{freshPump, soundPump}
 use Rattle.pump.specs.declared.holder.Pump.{Pump}
 use Rattle.bench.specs.Items.{Item, say, level, ticks, noItem, ticksItem, levelItem, tickItem, edgeItem, itemOf}
 use Rattle.bench.specs.Items.{valueOf, upToBlank, pastBlank}
-use Rattle.bench.specs.Items.{itemLines, pumpAfter, linesOf, allLines, scriptOf}
-use Rattle.bench.specs.Places.{after, kind}
+use Rattle.bench.specs.Items.{itemLines, pumpAfter, linesOf, allLines, pumpBehind, scriptOf}
+use Rattle.bench.specs.Places.{inputEnd, after, kind}
 use Rattle.bench.specs.Rigs.{setRig, setLines, runRig, runLines}
-use Rattle.bench.specs.Scripts.{freshBench, script}
+use Rattle.bench.specs.Scripts.{turned, played, says, closing, script}
+use Rattle.bench.specs.declared.feeding.Bench.{Bench}
 use Rattle.bench.specs.declared.places.Act.{Act}
 use Rattle.bench.specs.declared.places.Act.the-variants.{Set, Run, Complain}
+use Rattle.bench.specs.declared.places.Place.{Place}
 use Rattle.bench.specs.declared.places.Place.the-variants.{Start}
 use Rattle.bench.specs.declared.rigs.Rig.{Rig}
 use Rattle.bench.proofs.Cuts.{Cut, at-newline, at-both, at-return, at-other, split, lines-cut, rest-within}
-use Rattle.bench.proofs.Onward.{onward, onward-says, onward-other, acted, bad-line}
+use Rattle.bench.proofs.Onward.{Outcome, outcome, first, atEnd, onward, onward-bench, onward-other, acted, bad-line}
 use Rattle.bench.proofs.Onward.{ticksAct, pinAct, tickAct, tick-line, edgeAct, edge-line}
 use Rattle.bench.proofs.Parts.{ticksTest, ticks-parts, levelTest, level-parts}
 use Rattle.bench.proofs.Texts.{textLines, textRig, text-line, text-pump, text-says}
 
--- between two lines no text is under way
-abbrev idle : Pump → Rig
+-- ---- between two lines no text is under way
+abbrev pub idle : Pump → Rig
 idle p = record { pump = p; answered = false }
 
+abbrev standing : Rig → Place → Bench
+standing g q = record { rig = g; place = q }
+
+abbrev pub between : Pump → Bench
+between p = record { rig = idle p; place = Start }
+
 -- an item is done, and the next line begins
-abbrev done : Pump → Item → List ℕ → List ℕ
-done p i r = itemLines p i ++ onward (idle (pumpAfter p i)) Start r
+abbrev done : Pump → Item → List ℕ → Outcome
+done p i r = first (itemLines p i) (onward (idle (pumpAfter p i)) Start r)
 
 module _ (p : Pump) (r : List ℕ) where
   -- ---- ticks
@@ -90,10 +98,10 @@ module _ (p : Pump) (r : List ℕ) where
       go false = refl
 
   -- ---- a text
-  text-done : (l : List ℕ) → textLines (idle p) l ++ onward (textRig (idle p) l) Start r ≡ done p (say l) r
+  text-done : (l : List ℕ) → first (textLines (idle p) l) (onward (textRig (idle p) l) Start r) ≡ done p (say l) r
   text-done l =
-      ap (λ (u : List ℕ). u ++ onward (textRig (idle p) l) Start r) (text-says p l)
-      ∙ ap (λ (g : Rig). itemLines p (say l) ++ onward g Start r) (text-pump (idle p) l)
+      ap (λ (u : List ℕ). first u (onward (textRig (idle p) l) Start r)) (text-says p l)
+      ∙ ap (λ (g : Rig). first (itemLines p (say l)) (onward g Start r)) (text-pump (idle p) l)
 
 -- ---- the first byte says what the item is
 first-byte :
@@ -121,8 +129,11 @@ line-itemised p (at-other b s l r e f d) =
     ∙ first-byte p b d (eqb b (letter ">")) (eqb b (letter "T")) (eqb b (letter "E")) refl refl refl
 
 -- ---- all the lines
-lines-itemised : (k : ℕ) (p : Pump) (s : List ℕ) → length s ≤ k → onward (idle p) Start s ≡ allLines p (linesOf s)
-unfolding onward allLines linesOf
+lines-itemised :
+    (k : ℕ) (p : Pump) (s : List ℕ)
+    → length s ≤ k
+    → onward (idle p) Start s ≡ outcome (allLines p (linesOf s)) (idle (pumpBehind p (linesOf s)))
+unfolding onward allLines pumpBehind linesOf
 lines-itemised zero p [] h = refl
 lines-itemised zero p (b ∷ s) h = absurd (omega arith)
 lines-itemised (suc k) p [] h = refl
@@ -131,11 +142,43 @@ lines-itemised (suc k) p (b ∷ s) h =
     let i = itemOf (w .line) in
     line-itemised p (w .cut)
     ∙ ap
-    (λ (u : List ℕ). itemLines p i ++ u)
+    (first (itemLines p i))
     (lines-itemised k (pumpAfter p i) (w .rest) (let z = rest-within (w .cut) in omega arith))
-    ∙ sym (ap (λ (ls : List (List ℕ)). allLines p ls) (lines-cut (w .cut)))
+    ∙ sym (ap (λ (ls : List (List ℕ)). outcome (allLines p ls) (idle (pumpBehind p ls))) (lines-cut (w .cut)))
+
+bench-itemised :
+    (p : Pump) (s : List ℕ)
+    → first (says (between p) s) (atEnd (played (between p) s .rig) (inputEnd (played (between p) s .place)))
+    ≡ outcome (allLines p (linesOf s)) (idle (pumpBehind p (linesOf s)))
+bench-itemised p s = onward-bench (between p) s ∙ lines-itemised (length s) p s (omega arith)
 
 -- ---- the whole output for every input is that of its lines
 pub itemised : (s : List ℕ) → script s ≡ scriptOf s
-unfolding script scriptOf
-itemised s = onward-says freshBench s ∙ lines-itemised (length s) freshPump s (omega arith)
+unfolding script scriptOf closing
+itemised s = ap (λ (o : Outcome). o .lines) (bench-itemised freshPump s)
+
+-- ---- and it comes in time: at each newline all is printed that the lines up to it ask for, and the pump is as they leave it
+newline-starts : (w : Bench) (s : List ℕ) → played w (s ++ (10 ∷ [])) .place ≡ Start
+unfolding played turned after
+newline-starts w [] = refl
+newline-starts w (b ∷ s) = newline-starts (turned w b) s
+
+newline-itemised :
+    (p : Pump) (s : List ℕ)
+    → outcome (says (between p) (s ++ (10 ∷ []))) (played (between p) (s ++ (10 ∷ [])) .rig)
+    ≡ outcome (allLines p (linesOf (s ++ (10 ∷ [])))) (idle (pumpBehind p (linesOf (s ++ (10 ∷ [])))))
+newline-itemised p s =
+    let t : List ℕ = s ++ (10 ∷ []) in
+    let w : Bench = played (between p) t in
+    ap (λ (u : List ℕ). outcome u (w .rig)) (sym (append-nil (says (between p) t)))
+    ∙ ap (λ (q : Place). first (says (between p) t) (atEnd (w .rig) (inputEnd q))) (sym (newline-starts (between p) s))
+    ∙ bench-itemised p t
+
+pub newline-says : (p : Pump) (s : List ℕ) → says (between p) (s ++ (10 ∷ [])) ≡ allLines p (linesOf (s ++ (10 ∷ [])))
+newline-says p s = ap (λ (o : Outcome). o .lines) (newline-itemised p s)
+
+pub newline-played :
+    (p : Pump) (s : List ℕ) → played (between p) (s ++ (10 ∷ [])) ≡ between (pumpBehind p (linesOf (s ++ (10 ∷ []))))
+newline-played p s =
+    ap (λ (q : Place). standing (played (between p) (s ++ (10 ∷ [])) .rig) q) (newline-starts (between p) s)
+    ∙ ap (λ (o : Outcome). standing (o .left) Start) (newline-itemised p s)

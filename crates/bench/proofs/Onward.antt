@@ -1,5 +1,5 @@
--- What an input prints from a place of a line on, its end included: of an item's line up to its last byte nothing is printed, and
--- then what the line's acts ask for.
+-- What an input prints from a place of a line on, its end included, and the rig that it leaves: within a line that is no text nothing
+-- is done, and at its end what its parts ask for.
 -- Assumes nothing.
 use Prim.Native.Nat.{ℕ, _+_, _*_, _-_}
 use mathlib.Core.Path.{_≡_, refl, sym, ap, _∙_}
@@ -16,7 +16,7 @@ use Rattle.bench.specs.Numbers.{grown, ticksAsked, levelAsked}
 use Rattle.bench.specs.Places.{carriageReturn, newline, inputEnd, next, actOn, after}
 use Rattle.bench.specs.Places.{behindTick, inTicks, behindEdge, pinEnded, inPin, inLevel}
 use Rattle.bench.specs.Rigs.{rigAfter, printed}
-use Rattle.bench.specs.Scripts.{turned, turnSays, played, says, closing}
+use Rattle.bench.specs.Scripts.{turned, turnSays, played, says}
 use Rattle.bench.specs.declared.feeding.Bench.{Bench}
 use Rattle.bench.specs.declared.places.Act.{Act}
 use Rattle.bench.specs.declared.places.Act.the-variants.{Complain}
@@ -26,28 +26,54 @@ use Rattle.bench.specs.declared.rigs.Rig.{Rig}
 use Rattle.bench.proofs.Cuts.{Cut, ended, at-newline, at-both, at-return, at-other}
 use Rattle.bench.proofs.Saturating.{Alike, alike-grown, same-verdict}
 
--- ---- all that is printed from here on
-unfoldable pub onward : Rig → Place → List ℕ → List ℕ
-onward g p [] = printed g (inputEnd p)
-onward g p (b ∷ s) = printed g (after p b .act) ++ onward (rigAfter g (after p b .act)) (after p b .place) s
+-- ---- all that is printed from here on, and the rig that is left behind the end
+pub record Outcome : Type 0 where
+  pub lines : List ℕ
+  pub left : Rig
 
-pub onward-says : (w : Bench) (s : List ℕ) → says w s ++ closing (played w s) ≡ onward (w .rig) (w .place) s
-unfolding says played closing turned turnSays onward
-onward-says w [] = refl
-onward-says w (b ∷ s) =
-    append-assoc (turnSays w b) (says (turned w b) s) (closing (played (turned w b) s))
-    ∙ ap (λ (u : List ℕ). turnSays w b ++ u) (onward-says (turned w b) s)
+abbrev pub outcome : List ℕ → Rig → Outcome
+outcome u g = record { lines = u; left = g }
+
+-- these lines before the others
+abbrev pub first : List ℕ → Outcome → Outcome
+first u o = outcome (u ++ o .lines) (o .left)
+
+abbrev pub atEnd : Rig → Act → Outcome
+atEnd g a = outcome (printed g a) (rigAfter g a)
+
+pub first-first : (u v : List ℕ) (o : Outcome) → first (u ++ v) o ≡ first u (first v o)
+first-first u v o = ap (λ (x : List ℕ). outcome x (o .left)) (append-assoc u v (o .lines))
+
+unfoldable pub onward : Rig → Place → List ℕ → Outcome
+onward g p [] = atEnd g (inputEnd p)
+onward g p (b ∷ s) = first (printed g (after p b .act)) (onward (rigAfter g (after p b .act)) (after p b .place) s)
+
+pub onward-bench :
+    (w : Bench) (s : List ℕ) → first (says w s) (atEnd (played w s .rig) (inputEnd (played w s .place))) ≡ onward (w .rig) (w .place) s
+unfolding says played turned turnSays onward
+onward-bench w [] = refl
+onward-bench w (b ∷ s) =
+    first-first
+    (turnSays w b)
+    (says (turned w b) s)
+    (atEnd (played (turned w b) s .rig) (inputEnd (played (turned w b) s .place)))
+    ∙ ap (first (turnSays w b)) (onward-bench (turned w b) s)
 
 -- a line is done, and the next one begins
-abbrev pub acted : Rig → Act → List ℕ → List ℕ
-acted g a r = printed g a ++ onward (rigAfter g a) Start r
+abbrev pub acted : Rig → Act → List ℕ → Outcome
+acted g a r = first (printed g a) (onward (rigAfter g a) Start r)
+
+-- a line that the input's end ends
+pub acted-last : (g : Rig) (a : Act) → atEnd g a ≡ acted g a []
+unfolding onward
+acted-last g a = ap (λ (u : List ℕ). outcome u (rigAfter g a)) (sym (append-nil (printed g a)))
 
 -- a byte that is neither a newline nor a return
 pub onward-other :
     (g : Rig) (p : Place) (b : ℕ) (s : List ℕ)
     → eqb b newline ≡ false
     → eqb b carriageReturn ≡ false
-    → onward g p (b ∷ s) ≡ printed g (actOn p b) ++ onward (rigAfter g (actOn p b)) (next p b) s
+    → onward g p (b ∷ s) ≡ first (printed g (actOn p b)) (onward (rigAfter g (actOn p b)) (next p b) s)
 unfolding onward after
 onward-other g p b s e f = rw (e, f)
 
@@ -106,7 +132,7 @@ module _ (g : Rig) where
   pub ticks-line :
       (n m : ℕ) → Alike n m → {s l r : List ℕ} → Cut s l r → onward g (Ticks n) s ≡ acted g (ticksAct m l) r
   unfolding onward after ticksAct
-  ticks-line n m k ended = ap (printed g) (same-verdict k .0) ∙ sym (append-nil (printed g (ticksAsked m)))
+  ticks-line n m k ended = ap (λ (a : Act). atEnd g a) (same-verdict k .0) ∙ acted-last g (ticksAsked m)
   ticks-line n m k (at-newline r) = ap (λ (a : Act). acted g a r) (same-verdict k .0)
   ticks-line n m k (at-both r) = ap (λ (a : Act). acted g a r) (same-verdict k .0)
   ticks-line n m k (at-return s l r h d) = rw return-no-digit (returned-line g (ticksAsked n) h d)
@@ -142,7 +168,7 @@ module _ (g : Rig) (pin pin′ : ℕ) (like : Alike pin pin′) where
       → onward g (Level pin some n) s ≡ acted g (levelAct pin′ some m l) r
   unfolding onward after levelAct
   level-line some n m k ended =
-      ap (printed g) (same-verdict k .1 pin pin′ some like) ∙ sym (append-nil (printed g (levelAsked pin′ some m)))
+      ap (λ (a : Act). atEnd g a) (same-verdict k .1 pin pin′ some like) ∙ acted-last g (levelAsked pin′ some m)
   level-line some n m k (at-newline r) = ap (λ (a : Act). acted g a r) (same-verdict k .1 pin pin′ some like)
   level-line some n m k (at-both r) = ap (λ (a : Act). acted g a r) (same-verdict k .1 pin pin′ some like)
   level-line some n m k (at-return s l r h d) = rw return-no-digit (returned-line g (levelAsked pin some n) h d)

@@ -13,10 +13,11 @@ use Rattle.bench.specs.Places.{carriageReturn, newline, after}
 use Rattle.bench.specs.Printing.{complaintLine, framed}
 use Rattle.bench.specs.Rigs.{isRefused, reportOn, bufferOn, answerLine}
 use Rattle.bench.specs.Rigs.{sentRig, sentLine, sendRig, sendLines, finishRig, finishLines}
+use Rattle.bench.specs.declared.places.Act.the-variants.{Finish}
 use Rattle.bench.specs.declared.places.Place.the-variants.{Start, Text}
 use Rattle.bench.specs.declared.rigs.Rig.{Rig}
 use Rattle.bench.proofs.Cuts.{Cut, ended, at-newline, at-both, at-return, at-other}
-use Rattle.bench.proofs.Onward.{onward, onward-other}
+use Rattle.bench.proofs.Onward.{outcome, first, first-first, onward, onward-other, acted-last}
 
 -- ---- the rest of a text, sent to a rig, and its end
 unfoldable pub textLines : Rig → List ℕ → List ℕ
@@ -32,35 +33,35 @@ return-sent :
     (g : Rig) {s l r : List ℕ}
     → atNewline s ≡ false
     → Cut s l r
-    → onward g (Text true) s ≡ sentLine g 13 ++ onward (sentRig g 13) (Text false) s
-unfolding onward after sendRig sendLines finishLines
+    → onward g (Text true) s ≡ first (sentLine g 13) (onward (sentRig g 13) (Text false) s)
+unfolding onward after sendRig sendLines finishRig finishLines
 return-sent g h ended =
-    append-assoc
+    first-first
     (sentLine g 13)
     (sentLine (sentRig g 13) 13)
-    (if sentRig (sentRig g 13) 13 .answered then [] else newline ∷ [])
+    (outcome (if sentRig (sentRig g 13) 13 .answered then [] else newline ∷ []) (finishRig (sentRig g 13) false))
 return-sent g h (at-newline r) = false-true (sym h)
 return-sent g h (at-both r) = refl
 return-sent g h (at-return s l r k d) = refl
 return-sent g h (at-other b s l r e f d) =
     onward-other g (Text true) b s e f
-    ∙ append-assoc (sentLine g 13) (sentLine (sentRig g 13) b) (onward (sentRig (sentRig g 13) b) (Text false) s)
-    ∙ ap (λ (u : List ℕ). sentLine g 13 ++ u) (sym (onward-other (sentRig g 13) (Text false) b s e f))
+    ∙ first-first (sentLine g 13) (sentLine (sentRig g 13) b) (onward (sentRig (sentRig g 13) b) (Text false) s)
+    ∙ ap (first (sentLine g 13)) (sym (onward-other (sentRig g 13) (Text false) b s e f))
 
 pub text-line :
-    (g : Rig) {s l r : List ℕ} → Cut s l r → onward g (Text false) s ≡ textLines g l ++ onward (textRig g l) Start r
+    (g : Rig) {s l r : List ℕ} → Cut s l r → onward g (Text false) s ≡ first (textLines g l) (onward (textRig g l) Start r)
 unfolding onward after sendRig sendLines textLines textRig
-text-line g ended = sym (append-nil (finishLines g false))
+text-line g ended = acted-last g (Finish false)
 text-line g (at-newline r) = refl
 text-line g (at-both r) = refl
 text-line g (at-return s l r h d) =
     return-sent g h d
-    ∙ ap (λ (u : List ℕ). sentLine g 13 ++ u) (text-line (sentRig g 13) d)
-    ∙ sym (append-assoc (sentLine g 13) (textLines (sentRig g 13) l) (onward (textRig (sentRig g 13) l) Start r))
+    ∙ ap (first (sentLine g 13)) (text-line (sentRig g 13) d)
+    ∙ sym (first-first (sentLine g 13) (textLines (sentRig g 13) l) (onward (textRig (sentRig g 13) l) Start r))
 text-line g (at-other b s l r e f d) =
     onward-other g (Text false) b s e f
-    ∙ ap (λ (u : List ℕ). sentLine g b ++ u) (text-line (sentRig g b) d)
-    ∙ sym (append-assoc (sentLine g b) (textLines (sentRig g b) l) (onward (textRig (sentRig g b) l) Start r))
+    ∙ ap (first (sentLine g b)) (text-line (sentRig g b) d)
+    ∙ sym (first-first (sentLine g b) (textLines (sentRig g b) l) (onward (textRig (sentRig g b) l) Start r))
 
 -- ---- the pump in the end
 pub text-pump :

@@ -123,10 +123,14 @@ itemLines p (ticks n) =
     if soundPump p then countsLine n (ticked n p .infused) (ticked n p .withdrawn) else complaintLine
 itemLines p noItem = complaintLine
 
--- ---- line by line
+-- ---- line by line: all that is printed, and the pump behind the last line
 unfoldable pub allLines : Pump → List (List ℕ) → List ℕ
 allLines p [] = []
 allLines p (line ∷ lines) = itemLines p (itemOf line) ++ allLines (pumpAfter p (itemOf line)) lines
+
+unfoldable pub pumpBehind : Pump → List (List ℕ) → Pump
+pumpBehind p [] = p
+pumpBehind p (line ∷ lines) = pumpBehind (pumpAfter p (itemOf line)) lines
 
 -- ---- all that the program prints for an input
 unfoldable pub scriptOf : List ℕ → List ℕ

@@ -6,7 +6,7 @@ use lib.Dec.{eqb}
 use lib.ListN.{replicate}
 use Rattle.base.specs.If.{if_then_else_}
 use Rattle.pump.specs.Calls.{byteReport, byteBuffer, pinCall}
-use Rattle.pump.specs.Holder.{freshPump, soundPump}
+use Rattle.pump.specs.Holder.{modelPhases, freshPump, soundPump}
 use Rattle.pump.specs.Reports.{numberOf}
 use Rattle.pump.specs.declared.holder.Pump.{Pump}
 use Rattle.pump.specs.declared.reports.Refusal.{Refusal}
@@ -20,7 +20,7 @@ use Rattle.bench.specs.declared.rigs.Rig.{Rig}
 
 -- a pump just switched on, and no text yet
 abbrev pub freshRig : Rig
-freshRig = record { pump = freshPump; answered = false }
+freshRig = record { pump = freshPump modelPhases; answered = false }
 
 -- another pump in the rig
 abbrev pub withPump : Rig → Pump → Rig

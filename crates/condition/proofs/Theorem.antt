@@ -1,9 +1,13 @@
--- Condition 3 holds after any sequence of calls from power-up, refused ones among them.
+-- Condition 3 holds after any sequence of calls from power-up, refused ones among them, whatever the number of phases:
+--     condition3        of a pump of n phases, 1 to 99
+--     condition3-here   of this model
 -- Assumes nothing.
+use Prim.Native.Nat.{ℕ}
 use mathlib.Core.List.{List}
+use native.Mathlib.Omega.{arith}
 use Rattle.program.specs.declared.phases.Direction.the-variants.{Infuse, Withdraw}
-use Rattle.pump.specs.Holder.{freshPump}
-use Rattle.statement.specs.Histories.{Call, after}
+use Rattle.pump.specs.Holder.{modelPhases, freshPump}
+use Rattle.statement.specs.Histories.{Call, after, Model}
 use Rattle.events.specs.Events.{trace}
 use Rattle.sheet.proofs.Limits.{four-steps, three-loops}
 use Rattle.sheet.proofs.StepsRuled.{totals-ruled}
@@ -11,16 +15,22 @@ use Rattle.sheet.proofs.TotalsRight.{totals-right}
 use Rattle.doses.proofs.Theorems.{doses-fit, doses-whole, steps-in}
 use Rattle.condition.specs.Condition.{Condition3}
 
-pub condition3 : (cs : List Call) → Condition3 (after freshPump cs) (trace freshPump cs)
-condition3 cs =
+pub condition3 : (n : ℕ) → Model n → (cs : List Call) → Condition3 (after (freshPump n) cs) (trace (freshPump n) cs)
+condition3 n m cs =
     record {
-      infused = totals-right Infuse cs;
-      withdrawn = totals-right Withdraw cs;
-      infused-ruled = totals-ruled Infuse cs;
-      withdrawn-ruled = totals-ruled Withdraw cs;
-      visits-fit = doses-fit cs;
-      in-visits = steps-in cs;
-      all-counted = doses-whole cs;
-      three-loops = three-loops cs;
-      four-steps = four-steps cs;
+      infused = totals-right n Infuse cs;
+      withdrawn = totals-right n Withdraw cs;
+      infused-ruled = totals-ruled n m Infuse cs;
+      withdrawn-ruled = totals-ruled n m Withdraw cs;
+      visits-fit = doses-fit n m cs;
+      in-visits = steps-in n m cs;
+      all-counted = doses-whole n m cs;
+      three-loops = three-loops n m cs;
+      four-steps = four-steps n m cs;
     }
+
+model : Model modelPhases
+model = record { some = omega arith; few = omega arith }
+
+pub condition3-here : (cs : List Call) → Condition3 (after (freshPump modelPhases) cs) (trace (freshPump modelPhases) cs)
+condition3-here cs = condition3 modelPhases model cs

@@ -6,7 +6,6 @@ use mathlib.Core.Bool.{Bool, true, false}
 use mathlib.Core.List.{List}
 use lib.Dec.{leb, ltb, eqb}
 use lib.ListN.{length, set}
-use native.Mathlib.Omega.{arith}
 use borrow.Author.Tests.{leb-true, eqb-true}
 use Rattle.base.specs.If.{if_then_else_}
 use Rattle.base.proofs.Choices.{and-left, and-right, false-true}
@@ -93,15 +92,15 @@ said-still : (p : Pump) (s : Said) (buffer : List ℕ) → StaysSaid p s → Sti
 said-still p (quiet q) buffer s = record { stays = s; none = refl }
 said-still p (saying q r) buffer s = record { stays = s; none = refl }
 
-module _ (p : Pump) (full : length (p .phases) ≡ 41) (calm : Calm (p .core)) where
+module _ (p : Pump) (calm : Calm (p .core)) where
   -- ---- a command
   stays-obeyed : (n : ℕ) (o : Obeyed) → Does (p .core) (phaseAt (p .phases) n) o → Stays p (withPhase (withCore p (o .core)) n (o .here))
   unfolding withPhase
-  stays-obeyed n o a = go (isPhase phaseCount n) refl a
+  stays-obeyed n o a = go (isPhase (phaseCount p) n) refl a
     where
       go :
           (t : Bool)
-          → isPhase phaseCount n ≡ t
+          → isPhase (phaseCount p) n ≡ t
           → Does (p .core) (phaseAt (p .phases) n) o
           → Stays p
           (if t
@@ -111,8 +110,10 @@ module _ (p : Pump) (full : length (p .phases) ≡ 41) (calm : Calm (p .core)) w
         ap (λ (x : Place). x .work) (sym e) ∙ k,
         record {
           volume =
-              volume-at (p .phases) n (o .core .run .place .current) (o .here) (leb-true 1 n (and-left (leb 1 n) (leb n phaseCount) t))
-              (let hi = leb-true n phaseCount (and-right (leb 1 n) (leb n phaseCount) t) in omega arith) h
+              volume-at (p .phases) n (o .core .run .place .current) (o .here)
+              (leb-true 1 n (and-left (leb 1 n) (leb n (phaseCount p)) t))
+              (leb-true n (phaseCount p) (and-right (leb 1 n) (leb n (phaseCount p)) t))
+              h
               ∙ ap (λ (x : Place). phaseAt (p .phases) (x .current) .volume) e;
           diameter = d;
         },
@@ -127,7 +128,7 @@ module _ (p : Pump) (full : length (p .phases) ≡ 41) (calm : Calm (p .core)) w
     where
       go : (t : Bool) → StaysSaid p (if t then saying (resetPump p) reply.Status else obeyedWith p (done p command))
       go true = stays-none p (resetPump p) refl
-      go false = stays-obeyed (inHand p) (done p command) (does (p .core) _ calm _ phaseCount command)
+      go false = stays-obeyed (inHand p) (done p command) (does (p .core) _ calm _ (phaseCount p) command)
 
   stays-ours : (line : Line) → StaysSaid p (ours p line)
   unfolding ours
@@ -138,13 +139,13 @@ module _ (p : Pump) (full : length (p .phases) ≡ 41) (calm : Calm (p .core)) w
       go NoAlarm = stays-command (commandIn line)
 
 -- ---- a whole line
-module _ (p : Pump) (full : length (p .phases) ≡ 41) (calm : Calm (p .core)) where
+module _ (p : Pump) (calm : Calm (p .core)) where
   stays-after-line : StaysSaid p (afterLine p)
   unfolding afterLine
   stays-after-line = go (eqb (addressIn (p .line)) 0)
     where
       go : (t : Bool) → StaysSaid p (if t then ours (withLine p emptyLine) (p .line) else quiet (withLine p emptyLine))
-      go true = said-line p emptyLine (ours (withLine p emptyLine) (p .line)) (stays-ours (withLine p emptyLine) full calm (p .line))
+      go true = said-line p emptyLine (ours (withLine p emptyLine) (p .line)) (stays-ours (withLine p emptyLine) calm (p .line))
       go false = stays-line p (withLine p emptyLine) emptyLine (stays-same (withLine p emptyLine))
 
 -- ---- a byte
@@ -158,7 +159,7 @@ module _ (p : Pump) (w : Whole p) where
       go : (t : Bool) → Still p (if t then reportOf (afterLine (withLine p (a .line))) buffer else reported (withLine p (a .line)) 0)
       go true =
           said-still p (afterLine (withLine p (a .line))) buffer
-          (said-line p (a .line) (afterLine (withLine p (a .line))) (stays-after-line (withLine p (a .line)) (w .full) calm-whole))
+          (said-line p (a .line) (afterLine (withLine p (a .line))) (stays-after-line (withLine p (a .line)) calm-whole))
       go false = record { stays = stays-line p (withLine p (a .line)) (a .line) (stays-same (withLine p (a .line))); none = refl }
 
   pub byte-still : (b : ℕ) (buffer : List ℕ) → Still p (byteReport p b buffer)

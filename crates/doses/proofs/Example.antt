@@ -30,7 +30,7 @@ use Rattle.engine.specs.Sound.{soundRun, soundRanges, soundCore}
 use Rattle.engine.specs.Ticks.{enter, entered, tickOf}
 use Rattle.engine.specs.Working.{doseOf, afterVisit, afterDose, given, giveSteps, workVisit}
 use Rattle.pump.specs.Calls.{tickCall, received, byteReport}
-use Rattle.pump.specs.Holder.{phaseAt, withPhase, freshPump, inHand, soundPhases, soundPump}
+use Rattle.pump.specs.Holder.{modelPhases, phaseAt, withPhase, freshPump, inHand, soundPhases, soundPump}
 use Rattle.pump.specs.Lines.{done, obeyed, ours, afterLine}
 use Rattle.statement.specs.Histories.{Call, byteIn, tickIn}
 use Rattle.events.specs.Events.{trace}
@@ -118,7 +118,7 @@ observing = 0
 
 -- the newest first
 pub three-visits :
-    doses (trace freshPump calls)
+    doses (trace (freshPump modelPhases) calls)
     ≡ (record { volume = 1_000_000_000; v = 19_635_000; steps = 11; ended = false }
     ∷ record { volume = 19_000_000; v = 19_635_000; steps = 0; ended = true }
     ∷ record { volume = 1_000_000_000; v = 19_635_000; steps = 50; ended = true }

@@ -1,4 +1,4 @@
--- After any calls from power-up:
+-- After any calls from power-up, for each number of phases that a model may have:
 --     doses-fit     no visit to a phase with a volume has given more steps than fit in it, and one that ended of itself gave just so many
 --     doses-whole   the steps of all visits are the steps of all reports
 --     steps-in      a step is given only by a working tick of a visit under way
@@ -19,7 +19,7 @@ use Rattle.pump.specs.declared.holder.Pump.{Pump}
 use Rattle.pump.specs.declared.reports.Refusal.the-variants.{Unsound}
 use Rattle.pump.specs.declared.reports.Report.{Report}
 use Rattle.statement.specs.Facts.{underWay}
-use Rattle.statement.specs.Histories.{Call, byteIn, pinAt, tickIn, reportAfter, after, Whole}
+use Rattle.statement.specs.Histories.{Call, byteIn, pinAt, tickIn, reportAfter, after, Model, Whole}
 use Rattle.statement.proofs.Always.{call-whole}
 use Rattle.statement.proofs.Wholes.{fresh-whole}
 use Rattle.events.specs.Events.{Event, eventOf, trace, Every}
@@ -53,17 +53,17 @@ told p tickIn w = subst (λ (r : Report). Told (event p tickIn r [])) (sym (tick
 call-keeps : (p : Pump) (ws : List Dose) (c : Call) → Agree p ws → Agree (reportAfter p c .pump) (seen ws (eventOf p c))
 call-keeps p ws c a = keeps (eventOf p c) ws a (call-whole p c (a .whole)) (told p c (a .whole))
 
-none-yet : isVisiting (underWay freshPump) ≡ false
+none-yet : (n : ℕ) → isVisiting (underWay (freshPump n)) ≡ false
 unfolding freshPump
-none-yet = refl
+none-yet n = refl
 
-start : Agree freshPump []
-start = agree-fresh freshPump fresh-whole none-yet
+start : (n : ℕ) → Model n → Agree (freshPump n) []
+start n m = agree-fresh (freshPump n) (fresh-whole n m) (none-yet n)
 
 -- no visit to a phase with a volume has given more steps than fit in it, and one that ended of itself gave exactly that many
-pub doses-fit : (cs : List Call) → Every Fits (doses (trace freshPump cs))
+pub doses-fit : (n : ℕ) → Model n → (cs : List Call) → Every Fits (doses (trace (freshPump n) cs))
 unfolding doses
-doses-fit cs = follows seen Agree call-keeps freshPump [] cs start .fits
+doses-fit n m cs = follows seen Agree call-keeps (freshPump n) [] cs (start n m) .fits
 
 -- ---- no step is outside the visits
 sums :
@@ -82,9 +82,9 @@ unfolding stepsIn
 none-in = refl
 
 -- the steps of all visits are the steps of all reports
-pub doses-whole : (cs : List Call) → stepsIn (doses (trace freshPump cs)) ≡ stepsGiven (trace freshPump cs)
+pub doses-whole : (n : ℕ) → Model n → (cs : List Call) → stepsIn (doses (trace (freshPump n) cs)) ≡ stepsGiven (trace (freshPump n) cs)
 unfolding doses
-doses-whole cs = sums freshPump [] cs start ∙ omega (arith, none-in)
+doses-whole n m cs = sums (freshPump n) [] cs (start n m) ∙ omega (arith, none-in)
 
 -- ---- every step is in a visit
 visited : (p : Pump) (cs : List Call) → Whole p → Every InVisit (trace p cs)
@@ -92,13 +92,16 @@ unfolding trace
 visited p [] w = tt
 visited p (c ∷ cs) w = (told-in-visit (eventOf p c) (told p c w), visited (reportAfter p c .pump) cs (call-whole p c w))
 
-pub steps-in : (cs : List Call) → Every InVisit (trace freshPump cs)
-steps-in cs = visited freshPump cs fresh-whole
+pub steps-in : (n : ℕ) → Model n → (cs : List Call) → Every InVisit (trace (freshPump n) cs)
+steps-in n m cs = visited (freshPump n) cs (fresh-whole n m)
 
 -- and in the one that is written down
 pub doses-present :
-    (cs : List Call)
-    → isVisiting (underWay (after freshPump cs)) ≡ true
-    → Newest (Present (after freshPump cs)) (doses (trace freshPump cs))
+    (n : ℕ)
+    → Model n
+    → (cs : List Call)
+    → isVisiting (underWay (after (freshPump n) cs)) ≡ true
+    → Newest (Present (after (freshPump n) cs)) (doses (trace (freshPump n) cs))
 unfolding doses
-doses-present cs = agree-present (after freshPump cs) _ (follows seen Agree call-keeps freshPump [] cs start)
+doses-present n m cs =
+    agree-present (after (freshPump n) cs) _ (follows seen Agree call-keeps (freshPump n) [] cs (start n m))

@@ -4,7 +4,6 @@ use Prim.Native.Nat.{ℕ, zero, suc, _+_, _*_, _≤_}
 use mathlib.Core.Path.{_≡_, refl, sym, ap, _∙_, subst}
 use mathlib.Core.Bool.{true, false}
 use native.Mathlib.Omega.{arith}
-use lib.ListN.{length}
 use Rattle.program.specs.declared.phases.Phase.{Phase}
 use Rattle.engine.specs.Sound.{Ready}
 use Rattle.engine.specs.Ticks.{tickOf}
@@ -12,7 +11,7 @@ use Rattle.engine.specs.declared.state.Core.{Core}
 use Rattle.engine.specs.declared.state.Moved.{Moved}
 use Rattle.pump.specs.Calls as calls
 use Rattle.pump.specs.Calls.{tickCall}
-use Rattle.pump.specs.Holder.{phaseAt, withCore, soundPump}
+use Rattle.pump.specs.Holder.{phaseCount, phaseAt, withCore, soundPump}
 use Rattle.pump.specs.Reports.{refused, movedBy}
 use Rattle.pump.specs.declared.holder.Pump.{Pump}
 use Rattle.pump.specs.declared.reports.Refusal.the-variants.{Accepted, Unsound}
@@ -37,10 +36,10 @@ sound-tick : (p : Pump) → soundPump p ≡ true → tickCall p ≡ calls.ticked
 unfolding tickCall
 sound-tick p e = rw e refl
 
-module _ (p : Pump) (full : length (p .phases) ≡ 41) (core : Core) (a b i : ℕ) (ran : Ran p core a b i) (here : Phase)
-    (h : here ≡ phaseAt (p .phases) (core .run .place .current)) where
-  pub ready : Ready 41 core here
-  ready = rw h (pump-ready (withCore p core) (ran .sound))
+module _ {count : ℕ} (p : Pump) (full : phaseCount p ≡ count) (few : count ≤ 99) (core : Core) (a b i : ℕ)
+    (ran : Ran p core a b i) (here : Phase) (h : here ≡ phaseAt (p .phases) (core .run .place .current)) where
+  pub ready : Ready count core here
+  ready = rw (h, sym full) (pump-ready (withCore p core) (ran .sound) (omega (arith, full)))
 
   called : (m : Moved) → m ≡ tickOf core here → tickCall (withCore p core) ≡ movedBy (withCore p core) m Accepted
   called m k =
@@ -69,7 +68,8 @@ module _ (p : Pump) (full : length (p .phases) ≡ 41) (core : Core) (a b i : �
   ran-more m k x y =
       record {
         sound =
-            subst (λ (r : Report). soundPump (r .pump) ≡ true) (called m k) (tick-whole (withCore p core) full (ran .sound));
+            subst (λ (r : Report). soundPump (r .pump) ≡ true) (called m k)
+            (tick-whole (withCore p core) (omega (arith, full)) (ran .sound));
         same = counted m k;
         infused-few = omega (arith, ran .infused-few);
         withdrawn-few = omega (arith, ran .withdrawn-few);

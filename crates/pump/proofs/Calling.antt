@@ -19,7 +19,6 @@ use Rattle.engine.specs.declared.state.Moved.{Moved}
 use Rattle.engine.proofs.Readiness.{ranges-sound, chosen-le, ready-current}
 use Rattle.line.specs.Lines.{afterByte}
 use Rattle.line.specs.declared.lines.Arrived.{Arrived}
-use Rattle.program.specs.declared.phases.Phase.{Phase}
 use Rattle.pump.specs.Calls as calls
 use Rattle.pump.specs.Calls.{tickCall, edged, levelled, pinCall, received, receivedBuffer, byteReport, byteBuffer}
 use Rattle.pump.specs.Holder.{phaseCount, phaseAt, withCore, withLine, soundPump, checkedOf}
@@ -33,12 +32,12 @@ use Rattle.pump.specs.declared.reports.Report.{Report}
 use Rattle.pump.proofs.Phases.{pump-core, pump-ready}
 
 -- ---- what a sound pump lends to the rules
-pub handy-of : (p : Pump) → soundPump p ≡ true → Handy p
-handy-of p e =
+pub handy-of : (p : Pump) → phaseCount p ≤ 99 → soundPump p ≡ true → Handy p
+handy-of p few e =
     record {
-      current-few = ready-current phaseCount (p .core) _ (pump-ready p e);
+      current-few = ready-current (phaseCount p) (p .core) _ (pump-ready p e few);
       chosen-few =
-          let h = chosen-le phaseCount (p .core) (ranges-sound phaseCount (p .core) _ (pump-core p e)) in
+          let h = chosen-le (phaseCount p) (p .core) (ranges-sound (phaseCount p) (p .core) _ (pump-core p e)) in
           omega arith;
     }
 
@@ -55,8 +54,9 @@ tick-by p true s = sym (simp (sym s))
 tick-by p false s = sym (simp (sym s))
 
 module _ (p : Pump) (k : Checked) (c : k ≡ checkedOf p) where
-  pub ready-checked : k .sound ≡ true → Ready phaseCount (p .core) (k .here)
-  ready-checked e = rw (ap (λ x. x .here) c) (pump-ready p (sym (ap (λ x. x .sound) c) ∙ e))
+  pub ready-checked : {count : ℕ} → phaseCount p ≡ count → count ≤ 99 → k .sound ≡ true → Ready count (p .core) (k .here)
+  ready-checked full few e =
+      rw (ap (λ x. x .here) c, sym full) (pump-ready p (sym (ap (λ x. x .sound) c) ∙ e) (omega (arith, full)))
 
   pub tick-checked :
       (m : Moved) (refusal : Refusal) (r : Report)
@@ -69,11 +69,8 @@ module _ (p : Pump) (k : Checked) (c : k ≡ checkedOf p) where
 
 module _ (p : Pump) (sound : Bool) (s : sound ≡ soundPump p) where
   module _ (e : sound ≡ true) where
-    pub handy-now : Handy p
-    handy-now = handy-of p (sym s ∙ e)
-
-    pub ready-now : (here : Phase) → here ≡ phaseAt (p .phases) (p .core .run .place .current) → Ready phaseCount (p .core) here
-    ready-now here h = rw h (pump-ready p (sym s ∙ e))
+    pub handy-now : phaseCount p ≤ 99 → Handy p
+    handy-now few = handy-of p few (sym s ∙ e)
 
     -- ---- the pin
     module _ (pin level : ℕ) (r : Report) where

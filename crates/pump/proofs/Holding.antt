@@ -23,16 +23,17 @@ use Rattle.pump.specs.declared.holder.Pump.{Pump}
 use Rattle.pump.specs.declared.reports.Refusal.{Refusal}
 
 -- ---- the whole tested
-module _ (p : Pump) (b : Bool) (k : b ≡ soundPhases (p .phases)) where
+module _ (p : Pump) (b : Bool) (k : b ≡ soundPhases (phaseCount p) (p .phases)) where
   pub whole-sound :
-      (here : Phase) (core line : Bool)
+      {count : ℕ} (here : Phase) (core line : Bool)
+      → phaseCount p ≡ count
       → b ≡ true
       → here ≡ phaseAt (p .phases) (p .core .run .place .current)
-      → core ≡ soundCore phaseCount (p .core) here
+      → core ≡ soundCore count (p .core) here
       → line ≡ soundLine (p .line)
       → (core && line) ≡ soundPump p
   unfolding soundPump
-  whole-sound here core line e h c l = rw (c, l, h) (simp (sym k ∙ e))
+  whole-sound here core line full e h c l = rw (c, l, h, sym full) (simp (sym k ∙ e))
 
   pub phase-unsound : b ≡ false → false ≡ soundPump p
   unfolding soundPump
@@ -66,11 +67,17 @@ few-in-hand p n h e = rw e (few-by p h (operating (p .core)) refl)
 pub handy-line : (p q : Pump) (line : Line) → Handy p → q ≡ withLine p line → Handy q
 handy-line p q line h e = rw e (record { current-few = h .current-few; chosen-few = h .chosen-few })
 
--- ---- reset: a fresh pump with the core that was reset
+-- ---- reset: a fresh pump of as many phases, with the core that was reset
 pub reset-as :
-    (p fresh r : Pump) (core : Core) → fresh ≡ freshPump → core ≡ resetCore (p .core) → r ≡ withCore fresh core → r ≡ resetPump p
+    {count : ℕ} (p fresh r : Pump) (core : Core)
+    → phaseCount p ≡ count
+    → fresh ≡ freshPump count
+    → core ≡ resetCore (p .core)
+    → r ≡ withCore fresh core
+    → r ≡ resetPump p
 unfolding resetPump
-reset-as p fresh r core f k q = q ∙ ap (λ (x : Pump). withCore x core) f ∙ ap (withCore freshPump) k
+reset-as p fresh r core full f k q =
+    q ∙ ap (λ (x : Pump). withCore x core) (f ∙ ap freshPump (sym full)) ∙ ap (withCore (freshPump (phaseCount p))) k
 
 -- ---- a tick's report: a flag as a count
 counted : (b : Bool) → mir-val.boolByte b ≡ (if b then 1 else 0)
@@ -94,11 +101,11 @@ moved-as p held m refusal h = rw (h, counted (m .beep))
 
 -- ---- power-up
 pub fresh-as :
-    (first other : Phase) (core : Core) (line : Line)
+    (count : ℕ) (first other : Phase) (core : Core) (line : Line)
     → first ≡ powerUp 1
     → other ≡ powerUp 2
     → core ≡ powerUpCore
     → line ≡ emptyLine
-    → record { phases = set (replicate phaseCount other) 0 first; core = core; line = line } ≡ freshPump
+    → record { phases = set (replicate count other) 0 first; core = core; line = line } ≡ freshPump count
 unfolding freshPump
-fresh-as first other core line a b k l = rw (a, b, k, l)
+fresh-as count first other core line a b k l = rw (a, b, k, l)

@@ -1,4 +1,4 @@
--- The table of phases: the phase of a number, another phase put there, and every phase tested.
+-- The table of phases, however many they are: the phase of a number, another phase put there, and every phase tested.
 -- Assumes nothing.
 use Prim.Native.Nat.{ℕ, zero, suc, _+_, _-_, _≤_, _<_}
 use mathlib.Core.Path.{_≡_, refl, sym, ap, _∙_}
@@ -59,11 +59,11 @@ phase-past ps (suc n) ne h =
     sym (getD-past ps n stopPhase (rw e at h))
 
 -- a phase that is read from the table, or one that stops where there is none
-module _ (ps : List Phase) (n : ℕ) (here : Phase) (full : length ps ≡ 41) where
-  pub phase-read : (d : Phase) → 1 ≤ n → n ≤ 41 → here ≡ getD ps (n - 1) d → here ≡ phaseAt ps n
+module _ {count : ℕ} (ps : List Phase) (n : ℕ) (here : Phase) (full : length ps ≡ count) where
+  pub phase-read : (d : Phase) → 1 ≤ n → n ≤ count → here ≡ getD ps (n - 1) d → here ≡ phaseAt ps n
   phase-read d a b e = e ∙ phase-within ps n d (λ z. absurd (omega arith)) (omega (arith, full))
 
-  pub phase-over : 41 < n → here ≡ powerUp 0 → here ≡ phaseAt ps n
+  pub phase-over : count < n → here ≡ powerUp 0 → here ≡ phaseAt ps n
   phase-over a e = e ∙ power-up-stops ∙ phase-past ps n (λ z. absurd (omega arith)) (omega (arith, full))
 
   pub phase-under : n < 1 → here ≡ powerUp 0 → here ≡ phaseAt ps n
@@ -79,15 +79,15 @@ module _ (p : Pump) (n : ℕ) (x : Phase) where
   unfolding withPhase
   set-none e = rw e
 
-  module _ (ne : n ≡ 0 → ⊥) where
-    pub set-past : 41 ≤ n - 1 → p ≡ withPhase p n x
+  module _ {count : ℕ} (full : phaseCount p ≡ count) (ne : n ≡ 0 → ⊥) where
+    pub set-past : count ≤ n - 1 → p ≡ withPhase p n x
     unfolding withPhase
-    set-past h = sym (simp (le-leb 1 n (above-zero n ne), lt-leb n 41 (omega (arith, above-zero n ne))))
+    set-past h = sym (simp (le-leb 1 n (above-zero n ne), lt-leb n (phaseCount p) (omega (arith, above-zero n ne, full))))
 
     pub set-within :
-        n - 1 < 41 → record { phases = set (p .phases) (n - 1) x; core = p .core; line = p .line } ≡ withPhase p n x
+        n - 1 < count → record { phases = set (p .phases) (n - 1) x; core = p .core; line = p .line } ≡ withPhase p n x
     unfolding withPhase
-    set-within h = sym (simp (le-leb 1 n (above-zero n ne), le-leb n 41 (omega (arith, above-zero n ne))))
+    set-within h = sym (simp (le-leb 1 n (above-zero n ne), le-leb n (phaseCount p) (omega (arith, above-zero n ne, full))))
 
 -- ---- every phase tested, from the first on
 -- what is read past the end of an array of phases: each field's first value
@@ -95,68 +95,74 @@ abbrev pub zeroPhase : Phase
 zeroPhase = record { rate = 0; volume = 0; function = f.Rat; unit = Um; direction = Infuse }
 
 pub sound-step :
-    (ps : List Phase) (i : ℕ)
+    (count : ℕ) (ps : List Phase) (i : ℕ)
     → i < length ps
-    → soundPhases (drop i ps) ≡ (soundPhase phaseCount (getD ps i zeroPhase) && soundPhases (drop (i + 1) ps))
+    → soundPhases count (drop i ps) ≡ (soundPhase count (getD ps i zeroPhase) && soundPhases count (drop (i + 1) ps))
 unfolding soundPhases
-sound-step ps i h = rw (add-one i, drop-cons ps i zeroPhase h)
+sound-step count ps i h = rw (add-one i, drop-cons ps i zeroPhase h)
 
-pub sound-rest : (ps : List Phase) (i : ℕ) → length ps ≤ i → soundPhases (drop i ps) ≡ true
+pub sound-rest : (count : ℕ) (ps : List Phase) (i : ℕ) → length ps ≤ i → soundPhases count (drop i ps) ≡ true
 unfolding soundPhases
-sound-rest [] zero h = refl
-sound-rest [] (suc i) h = refl
-sound-rest (p ∷ ps) zero h = absurd (not-suc-le-zero h)
-sound-rest (p ∷ ps) (suc i) h = sound-rest ps i (le-of-suc-le-suc h)
+sound-rest count [] zero h = refl
+sound-rest count [] (suc i) h = refl
+sound-rest count (p ∷ ps) zero h = absurd (not-suc-le-zero h)
+sound-rest count (p ∷ ps) (suc i) h = sound-rest count ps i (le-of-suc-le-suc h)
 
-pub record Tested (ps : List Phase) (i : ℕ) : Type 0 where
-  pub inside : i ≤ 41
-  pub rest : soundPhases ps ≡ soundPhases (drop i ps)
+pub record Tested (count : ℕ) (ps : List Phase) (i : ℕ) : Type 0 where
+  pub inside : i ≤ count
+  pub rest : soundPhases count ps ≡ soundPhases count (drop i ps)
 
-pub tested-none : (ps : List Phase) → Tested ps 0
-tested-none ps = record { inside = omega arith; rest = refl }
+pub tested-none : (count : ℕ) (ps : List Phase) → Tested count ps 0
+tested-none count ps = record { inside = omega arith; rest = refl }
 
-module _ (ps : List Phase) (i : ℕ) (full : length ps ≡ 41) (m : Tested ps i) (h : i < 41) (r : Bool)
-    (p : r ≡ soundPhase phaseCount (getD ps i zeroPhase)) where
-  pub tested-more : r ≡ true → Tested ps (i + 1)
-  tested-more e = record { inside = omega arith; rest = m .rest ∙ sound-step ps i (omega arith) ∙ simp (sym p ∙ e) }
+-- all of them are tested for the number that there are
+module _ {count : ℕ} (ps : List Phase) (i : ℕ) (full : length ps ≡ count) (m : Tested count ps i) where
+  as-many : soundPhases (length ps) ps ≡ soundPhases count ps
+  as-many = ap (λ (k : ℕ). soundPhases k ps) full
 
-  pub one-unsound : r ≡ false → false ≡ soundPhases ps
-  one-unsound e = sym (m .rest ∙ sound-step ps i (omega arith) ∙ simp (sym p ∙ e))
+  module _ (h : i < count) (r : Bool) (p : r ≡ soundPhase count (getD ps i zeroPhase)) where
+    pub tested-more : r ≡ true → Tested count ps (i + 1)
+    tested-more e =
+        record { inside = omega arith; rest = m .rest ∙ sound-step count ps i (omega (arith, full)) ∙ simp (sym p ∙ e) }
 
-pub tested-all : (ps : List Phase) (i : ℕ) → length ps ≡ 41 → Tested ps i → 41 ≤ i → true ≡ soundPhases ps
-tested-all ps i full m h = sym (m .rest ∙ sound-rest ps i (omega arith))
+    pub one-unsound : r ≡ false → false ≡ soundPhases (length ps) ps
+    one-unsound e = sym (as-many ∙ m .rest ∙ sound-step count ps i (omega (arith, full)) ∙ simp (sym p ∙ e))
+
+  pub tested-all : count ≤ i → true ≡ soundPhases (length ps) ps
+  tested-all h = sym (as-many ∙ m .rest ∙ sound-rest count ps i (omega (arith, full)))
 
 -- ---- a phase that is looked up among sound ones is sound
 pub stop-sound : (n : ℕ) → soundPhase n stopPhase ≡ true
 unfolding soundPhase writable
 stop-sound n = refl
 
-sound-get : (ps : List Phase) (i : ℕ) → soundPhases ps ≡ true → soundPhase phaseCount (getD ps i stopPhase) ≡ true
+sound-get : (count : ℕ) (ps : List Phase) (i : ℕ) → soundPhases count ps ≡ true → soundPhase count (getD ps i stopPhase) ≡ true
 unfolding soundPhases
-sound-get [] i h = rw (getD-past [] i stopPhase (omega arith)) (stop-sound phaseCount)
-sound-get (p ∷ ps) zero h = and-left (soundPhase phaseCount p) (soundPhases ps) h
-sound-get (p ∷ ps) (suc i) h = sound-get ps i (and-right (soundPhase phaseCount p) (soundPhases ps) h)
+sound-get count [] i h = rw (getD-past [] i stopPhase (omega arith)) (stop-sound count)
+sound-get count (p ∷ ps) zero h = and-left (soundPhase count p) (soundPhases count ps) h
+sound-get count (p ∷ ps) (suc i) h = sound-get count ps i (and-right (soundPhase count p) (soundPhases count ps) h)
 
-pub sound-at : (ps : List Phase) (k : ℕ) → soundPhases ps ≡ true → soundPhase phaseCount (phaseAt ps k) ≡ true
+pub sound-at : (count : ℕ) (ps : List Phase) (k : ℕ) → soundPhases count ps ≡ true → soundPhase count (phaseAt ps k) ≡ true
 unfolding phaseAt
-sound-at ps zero h = stop-sound phaseCount
-sound-at ps (suc k) h = sound-get ps k h
+sound-at count ps zero h = stop-sound count
+sound-at count ps (suc k) h = sound-get count ps k h
 
 -- ---- a sound pump by its parts
 module _ (p : Pump) (e : soundPump p ≡ true) where
-  pub pump-phases : soundPhases (p .phases) ≡ true
+  pub pump-phases : soundPhases (phaseCount p) (p .phases) ≡ true
   unfolding soundPump
-  pump-phases = and-left (soundPhases (p .phases)) _ e
+  pump-phases = and-left (soundPhases (phaseCount p) (p .phases)) _ e
 
-  both : (soundCore phaseCount (p .core) (phaseAt (p .phases) (p .core .run .place .current)) && soundLine (p .line)) ≡ true
+  both : (soundCore (phaseCount p) (p .core) (phaseAt (p .phases) (p .core .run .place .current)) && soundLine (p .line)) ≡ true
   unfolding soundPump
-  both = and-right (soundPhases (p .phases)) _ e
+  both = and-right (soundPhases (phaseCount p) (p .phases)) _ e
 
-  pub pump-core : soundCore phaseCount (p .core) (phaseAt (p .phases) (p .core .run .place .current)) ≡ true
+  pub pump-core : soundCore (phaseCount p) (p .core) (phaseAt (p .phases) (p .core .run .place .current)) ≡ true
   pump-core = and-left _ (soundLine (p .line)) both
 
   pub pump-line : soundLine (p .line) ≡ true
-  pump-line = and-right (soundCore phaseCount (p .core) (phaseAt (p .phases) (p .core .run .place .current))) _ both
+  pump-line = and-right (soundCore (phaseCount p) (p .core) (phaseAt (p .phases) (p .core .run .place .current))) _ both
 
-  pub pump-ready : Ready phaseCount (p .core) (phaseAt (p .phases) (p .core .run .place .current))
-  pump-ready = record { few = omega arith; core = pump-core; phase = sound-at (p .phases) (p .core .run .place .current) pump-phases }
+  pub pump-ready : phaseCount p ≤ 99 → Ready (phaseCount p) (p .core) (phaseAt (p .phases) (p .core .run .place .current))
+  pump-ready few =
+      record { few = few; core = pump-core; phase = sound-at (phaseCount p) (p .phases) (p .core .run .place .current) pump-phases }

@@ -68,14 +68,15 @@ module _ (p : Pump) (command : Command) (reset : Bool) (s : reset ≡ isReset co
       ∙ sym (simp (sym s ∙ e))
 
 pub done-as :
-    (p : Pump) (command : Command) (n : ℕ) (here next : Phase) (o : Obeyed)
+    {count : ℕ} (p : Pump) (command : Command) (n : ℕ) (here next : Phase) (o : Obeyed)
+    → phaseCount p ≡ count
     → n ≡ inHand p
     → here ≡ phaseAt (p .phases) n
     → next ≡ phaseAt (p .phases) (n + 1)
-    → o ≡ obeyBy (p .core) here (next .function) phaseCount command
+    → o ≡ obeyBy (p .core) here (next .function) count command
     → o ≡ done p command
 unfolding done
-done-as p command n here next o a b d g = g ∙ rw (b, d, a)
+done-as p command n here next o full a b d g = g ∙ rw (b, d, a, sym full)
 
 -- ---- a line of ours
 module _ (p : Pump) (line : Line) where

@@ -2,7 +2,7 @@
 use Prim.Native.Nat.{ℕ, _-_}
 use mathlib.Core.Bool.{Bool, true, _&&_}
 use mathlib.Core.List.{List, [], _∷_}
-use lib.ListN.{getD, set, replicate}
+use lib.ListN.{length, getD, set, replicate}
 use Rattle.base.specs.If.{if_then_else_}
 use Rattle.engine.specs.Control.{powerUpCore}
 use Rattle.engine.specs.Queries as queries
@@ -17,9 +17,13 @@ use Rattle.program.specs.declared.phases.Phase.{Phase}
 use Rattle.pump.specs.declared.checks.Checked.{Checked}
 use Rattle.pump.specs.declared.holder.Pump.{Pump}
 
--- how many phases there are
-abbrev pub phaseCount : ℕ
-phaseCount = 41
+-- how many phases a pump has: no rule names a number, each asks the state
+abbrev pub phaseCount : Pump → ℕ
+phaseCount p = length (p .phases)
+
+-- and how many this model has, as the type of its state   (01, Numbers: "phases 1 to 41")
+abbrev pub modelPhases : ℕ
+modelPhases = 41
 
 -- what stands where there is no phase: entering it stops the pump
 abbrev pub stopPhase : Phase
@@ -38,25 +42,25 @@ withLine p x = record { phases = p .phases; core = p .core; line = x }
 
 unfoldable pub withPhase : Pump → ℕ → Phase → Pump
 withPhase p n x =
-    if isPhase phaseCount n then record { phases = set (p .phases) (n - 1) x; core = p .core; line = p .line } else p
+    if isPhase (phaseCount p) n then record { phases = set (p .phases) (n - 1) x; core = p .core; line = p .line } else p
 
--- ---- power-up: phase 1 RAT, others STP, and the line empty
-unfoldable pub freshPump : Pump
-freshPump = record { phases = set (replicate phaseCount (powerUp 2)) 0 (powerUp 1); core = powerUpCore; line = emptyLine }
+-- ---- power-up of a pump of n phases: phase 1 RAT, others STP, and the line empty
+unfoldable pub freshPump : ℕ → Pump
+freshPump n = record { phases = set (replicate n (powerUp 2)) 0 (powerUp 1); core = powerUpCore; line = emptyLine }
 
 -- ---- the number of the phase that a command concerns
 unfoldable pub inHand : Pump → ℕ
 inHand p = queries.inHand (p .core)
 
--- ---- sound: every phase, the core with its current phase, the line
-unfoldable pub soundPhases : List Phase → Bool
-soundPhases [] = true
-soundPhases (p ∷ ps) = soundPhase phaseCount p && soundPhases ps
+-- ---- sound: every phase in a pump of n of them, the core with its current phase, the line
+unfoldable pub soundPhases : ℕ → List Phase → Bool
+soundPhases n [] = true
+soundPhases n (p ∷ ps) = soundPhase n p && soundPhases n ps
 
 unfoldable pub soundPump : Pump → Bool
 soundPump p =
-    soundPhases (p .phases)
-    && (soundCore phaseCount (p .core) (phaseAt (p .phases) (p .core .run .place .current)) && soundLine (p .line))
+    soundPhases (phaseCount p) (p .phases)
+    && (soundCore (phaseCount p) (p .core) (phaseAt (p .phases) (p .core .run .place .current)) && soundLine (p .line))
 
 -- with the current phase
 abbrev pub checkedOf : Pump → Checked

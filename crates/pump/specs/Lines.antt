@@ -75,12 +75,12 @@ isReset (c.Clear d) = false
 isReset c.Reset = true
 
 unfoldable pub resetPump : Pump → Pump
-resetPump p = withCore freshPump (resetCore (p .core))
+resetPump p = withCore (freshPump (phaseCount p)) (resetCore (p .core))
 
 -- ---- any other command concerns the core and the phase in hand; RAT also looks at the function of the phase after it
 unfoldable pub done : Pump → Command → Obeyed
 done p command =
-    obeyBy (p .core) (phaseAt (p .phases) (inHand p)) (phaseAt (p .phases) (inHand p + 1) .function) phaseCount command
+    obeyBy (p .core) (phaseAt (p .phases) (inHand p)) (phaseAt (p .phases) (inHand p + 1) .function) (phaseCount p) command
 
 abbrev pub obeyedWith : Pump → Obeyed → Said
 obeyedWith p o = saying (withPhase (withCore p (o .core)) (inHand p) (o .here)) (o .reply)

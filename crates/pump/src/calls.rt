@@ -5,6 +5,7 @@ ghost use Rattle.base.specs.If.{if_then_else_};
 ghost use Rattle.engine.specs.Runs.{silent};
 ghost use Rattle.engine.specs.Sound.{Ready};
 ghost use Rattle.engine.specs.Ticks.{tickOf};
+ghost use Rattle.pump.specs.Holder.{modelPhases};
 ghost use Rattle.pump.specs.Calls.{tickCall, pinCall, levelled, edged, byteReport, byteBuffer, received, receivedBuffer};
 ghost use Rattle.pump.specs.Lines.{Handy};
 use crate::holder::Pump;
@@ -93,7 +94,7 @@ impl Pump {
 
 // A tick of a sound pump; of any other, one that leaves all as it is.
 fn ticked(core: Core, here: Phase, sound: bool) -> Moved
-    requires { ⌜ (sound ≡ true → Ready 41 core here) ⌝ }
+    requires { ⌜ (sound ≡ true → Ready modelPhases core here) ⌝ }
     ensures { λ r. ⌜ r ≡ (if sound then tickOf core here else silent core) ⌝ }
 {
     if sound {

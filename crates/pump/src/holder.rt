@@ -1,6 +1,6 @@
 // The pump's state, its constants, and the phase of a number.
 ghost use mathlib.Core.Path.{_≡_};
-ghost use Rattle.pump.specs.Holder.{freshPump, phaseAt, withPhase, withCore, withLine, inHand};
+ghost use Rattle.pump.specs.Holder.{modelPhases, freshPump, phaseAt, withPhase, withCore, withLine, inHand};
 use engine::Core;
 use line::Line;
 use program::Phase;
@@ -22,7 +22,7 @@ impl Pump {
 
     // A pump just switched on.
     pub fn new() -> Pump
-        ensures { λ r. ⌜ r ≡ freshPump ⌝ }
+        ensures { λ r. ⌜ r ≡ freshPump modelPhases ⌝ }
     {
         let mut phases = [Phase::power_up(2); 41];
         let first = Phase::power_up(1);

@@ -108,7 +108,7 @@ no-reset command n = go (isReset command) refl
 -- ---- a phase that is set leaves the core
 with-phase-core : (q : Pump) (n : ℕ) (x : Phase) → withPhase q n x .core ≡ q .core
 unfolding withPhase
-with-phase-core q n x = go (isPhase phaseCount n)
+with-phase-core q n x = go (isPhase (phaseCount q) n)
   where
     go :
         (t : Bool)
@@ -152,7 +152,7 @@ module _ (d : Direction) (p : Pump) (b : ℕ) (buffer : List ℕ) (o : Outcome) 
       (commandIn (p .line) ≡ c.Reset → ⊥)
       → Left d (commandIn (p .line)) (p .core) (lines.done (emptied p) (commandIn (p .line)))
   unfolding lines.done inHand
-  obeyed-left n = obey-left d (p .core) _ _ phaseCount (commandIn (p .line)) (no-reset (commandIn (p .line)) n)
+  obeyed-left n = obey-left d (p .core) _ _ (phaseCount p) (commandIn (p .line)) (no-reset (commandIn (p .line)) n)
 
   -- what a byte makes the pump say
   said-books : (s : Said) → Hears p b s → Told s buffer o → Books d here

@@ -7,7 +7,7 @@ use lib.ListN.{replicate}
 use Rattle.base.specs.Rows.{Gives}
 use Rattle.base.specs.Text.{text}
 use Rattle.program.specs.declared.phases.Direction.the-variants.{Infuse}
-use Rattle.pump.specs.Holder.{freshPump}
+use Rattle.pump.specs.Holder.{modelPhases, freshPump}
 use Rattle.statement.specs.Histories.{Call, byteIn, tickIn}
 use Rattle.events.specs.Events.{trace}
 use Rattle.sheet.specs.Totals.{clears, volume, sinceCleared}
@@ -27,7 +27,7 @@ abbrev dispensed : ℕ → List Call
 dispensed n = sent (text "") ++ sent (text "RAT200MH") ++ sent (text "VOL1") ++ sent (text "RUN") ++ ticked n
 
 abbrev infused : List Call → ℕ
-infused cs = volume Infuse (sinceCleared Infuse (trace freshPump cs))
+infused cs = volume Infuse (sinceCleared Infuse (trace (freshPump modelPhases) cs))
 
 abbrev pub rows : List (List Call × ℕ)
 rows =

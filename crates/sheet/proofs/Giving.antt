@@ -23,7 +23,7 @@ use Rattle.pump.specs.Lines.{Said, quiet, saying}
 use Rattle.pump.specs.declared.holder.Pump.{Pump}
 use Rattle.pump.proofs.Phases.{pump-ready}
 use Rattle.statement.specs.Facts.{hereOf}
-use Rattle.statement.specs.Histories.{Call, byteIn, pinAt, tickIn}
+use Rattle.statement.specs.Histories.{Call, byteIn, pinAt, tickIn, Whole}
 use Rattle.statement.specs.Outcomes as out
 use Rattle.statement.specs.Outcomes.{Outcome, outcomeOf, Still, Ticked, Told, Meets}
 use Rattle.statement.proofs.Doing.{does}
@@ -79,13 +79,14 @@ moves-few phases s p ready m (gives-steps v unit r e f g) =
 pub tick-told : (p : Pump) → soundPump p ≡ true → Ticked p (outcomeOf p tickIn)
 tick-told p e = does p tickIn e tt
 
-tick-few : (p : Pump) → soundPump p ≡ true → FourSteps (eventOf p tickIn)
-tick-few p e =
-    let t = tick-told p e in
-    let few = moves-few phaseCount (p .core) (hereOf p) (pump-ready p e) _ (tick-moves (p .core) (hereOf p)) in
+tick-few : (p : Pump) → Whole p → FourSteps (eventOf p tickIn)
+tick-few p w =
+    let t = tick-told p (w .sound) in
+    let ready = pump-ready p (w .sound) (w .model .few) in
+    let few = moves-few (phaseCount p) (p .core) (hereOf p) ready _ (tick-moves (p .core) (hereOf p)) in
     omega (arith, few, t .infused, t .withdrawn)
 
-pub call-few : (p : Pump) (c : Call) → soundPump p ≡ true → FourSteps (eventOf p c)
-call-few p (byteIn b buffer) e = let n = byte-none p b buffer in omega (arith, n .none-infused, n .none-withdrawn)
-call-few p (pinAt pin level) e = let n = pin-none p pin level in omega (arith, n .none-infused, n .none-withdrawn)
-call-few p tickIn e = tick-few p e
+pub call-few : (p : Pump) (c : Call) → Whole p → FourSteps (eventOf p c)
+call-few p (byteIn b buffer) w = let n = byte-none p b buffer in omega (arith, n .none-infused, n .none-withdrawn)
+call-few p (pinAt pin level) w = let n = pin-none p pin level in omega (arith, n .none-infused, n .none-withdrawn)
+call-few p tickIn w = tick-few p w

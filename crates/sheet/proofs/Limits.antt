@@ -1,11 +1,12 @@
--- After any calls from power-up, refused ones among them:
+-- After any calls from power-up, refused ones among them, for each number of phases that a model may have:
 --     four-steps    no event reports more than four steps
 --     three-loops   at most three loops are open, and no two were begun by the same phase
 -- Assumes nothing.
+use Prim.Native.Nat.{ℕ}
 use mathlib.Core.List.{List, [], _∷_}
 use Rattle.pump.specs.Holder.{freshPump}
 use Rattle.pump.specs.declared.holder.Pump.{Pump}
-use Rattle.statement.specs.Histories.{Call, reportAfter, after, Whole}
+use Rattle.statement.specs.Histories.{Call, reportAfter, after, Model, Whole}
 use Rattle.statement.proofs.Always.{call-whole, sound-after}
 use Rattle.statement.proofs.Soundness.{sound-facts}
 use Rattle.statement.proofs.Wholes.{fresh-whole}
@@ -20,10 +21,10 @@ module _ (P : Event → Type 0) (each : (p : Pump) (c : Call) → Whole p → P 
   every-event p [] w = tt
   every-event p (c ∷ cs) w = (each p c w, every-event (reportAfter p c .pump) cs (call-whole p c w))
 
-pub four-steps : (cs : List Call) → Every FourSteps (trace freshPump cs)
-four-steps cs = every-event FourSteps (λ p c w. call-few p c (w .sound)) freshPump cs fresh-whole
+pub four-steps : (n : ℕ) → Model n → (cs : List Call) → Every FourSteps (trace (freshPump n) cs)
+four-steps n m cs = every-event FourSteps call-few (freshPump n) cs (fresh-whole n m)
 
-pub three-loops : (cs : List Call) → ThreeLoops (after freshPump cs)
-three-loops cs =
-    let s = sound-facts (after freshPump cs) (sound-after cs) in
+pub three-loops : (n : ℕ) → Model n → (cs : List Call) → ThreeLoops (after (freshPump n) cs)
+three-loops n m cs =
+    let s = sound-facts (after (freshPump n) cs) (sound-after n m cs) in
     record { three = s .three-loops; different-phases = s .different-phases }

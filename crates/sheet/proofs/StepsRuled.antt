@@ -1,4 +1,4 @@
--- After any calls from power-up, refused ones among them:
+-- After any calls from power-up, refused ones among them, for each number of phases that a model may have:
 --     steps-ruled    the next call reports the steps that the rules give, where what was given so far is read off the reports
 --     totals-ruled   each total is the volume of the steps that the rules give, added up since it was last cleared
 -- Assumes nothing.
@@ -12,7 +12,7 @@ use Rattle.program.specs.declared.phases.Direction.the-variants.{Infuse, Withdr
 use Rattle.dispense.specs.Totals.{totalOf}
 use Rattle.pump.specs.Holder.{freshPump}
 use Rattle.pump.specs.declared.holder.Pump.{Pump}
-use Rattle.statement.specs.Histories.{Call, reportAfter, after, Whole}
+use Rattle.statement.specs.Histories.{Call, reportAfter, after, Model, Whole}
 use Rattle.statement.proofs.Always.{call-whole, sound-after}
 use Rattle.statement.proofs.Wholes.{fresh-whole}
 use Rattle.events.specs.Events.{eventOf, trace}
@@ -24,11 +24,14 @@ use Rattle.sheet.proofs.Ruling.{call-ruled}
 use Rattle.sheet.proofs.TotalsRight.{noted-fold, totals-right}
 
 pub steps-ruled :
-    (d : Direction) (cs : List Call) (c : Call)
-    → stepsTold d (eventOf (after freshPump cs) c)
-    ≡ ruled d (volume d (sinceCleared d (trace freshPump cs))) (after freshPump cs) c
-steps-ruled d cs c =
-    call-ruled d (after freshPump cs) c (sound-after cs) ∙ ap (λ x. ruled d x (after freshPump cs) c) (totals-right d cs)
+    (n : ℕ)
+    → Model n
+    → (d : Direction) (cs : List Call) (c : Call)
+    → stepsTold d (eventOf (after (freshPump n) cs) c)
+    ≡ ruled d (volume d (sinceCleared d (trace (freshPump n) cs))) (after (freshPump n) cs) c
+steps-ruled n m d cs c =
+    call-ruled d (after (freshPump n) cs) c (sound-after n m cs)
+    ∙ ap (λ x. ruled d x (after (freshPump n) cs) c) (totals-right n d cs)
 
 -- ---- the total, and what the observer has added up
 record Agree (d : Direction) (p : Pump) (x : ℕ) : Type 0 where
@@ -46,13 +49,17 @@ keeps d p x c a =
           ∙ ap (λ y. addedUp d y (eventOf p c)) (a .total);
     }
 
-starts : (d : Direction) → Agree d freshPump 0
+starts : (n : ℕ) → Model n → (d : Direction) → Agree d (freshPump n) 0
 unfolding freshPump
-starts Infuse = record { whole = fresh-whole; total = refl }
-starts Withdraw = record { whole = fresh-whole; total = refl }
+starts n m Infuse = record { whole = fresh-whole n m; total = refl }
+starts n m Withdraw = record { whole = fresh-whole n m; total = refl }
 
 pub totals-ruled :
-    (d : Direction) (cs : List Call) → totalOf (after freshPump cs .core .totals) d ≡ ruledVolume d (trace freshPump cs)
+    (n : ℕ)
+    → Model n
+    → (d : Direction) (cs : List Call)
+    → totalOf (after (freshPump n) cs .core .totals) d ≡ ruledVolume d (trace (freshPump n) cs)
 unfolding ruledVolume
-totals-ruled d cs =
-    follows (addedUp d) (Agree d) (keeps d) freshPump 0 cs (starts d) .total ∙ noted-fold (addedUp d) 0 (trace freshPump cs)
+totals-ruled n m d cs =
+    follows (addedUp d) (Agree d) (keeps d) (freshPump n) 0 cs (starts n m d) .total
+    ∙ noted-fold (addedUp d) 0 (trace (freshPump n) cs)

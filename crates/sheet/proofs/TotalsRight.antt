@@ -1,4 +1,4 @@
--- After any calls from power-up, refused ones among them:
+-- After any calls from power-up, refused ones among them, whatever the number of phases:
 --     totals-right   each total is the volume of the steps reported since it was last cleared
 -- Assumes nothing.
 use Prim.Native.Nat.{ℕ, _+_}
@@ -39,15 +39,15 @@ keeps : (d : Direction) (p : Pump) (es : List Event) (c : Call) → Agree d p es
 keeps d p es c a =
     call-books d p c ∙ books-since d (clears d (eventOf p c)) (totalOf (p .core .totals) d) (eventOf p c) es a
 
-starts : (d : Direction) → Agree d freshPump []
+starts : (n : ℕ) (d : Direction) → Agree d (freshPump n) []
 unfolding freshPump volume
-starts Infuse = refl
-starts Withdraw = refl
+starts n Infuse = refl
+starts n Withdraw = refl
 
 pub totals-right :
-    (d : Direction) (cs : List Call)
-    → totalOf (after freshPump cs .core .totals) d ≡ volume d (sinceCleared d (trace freshPump cs))
+    (n : ℕ) (d : Direction) (cs : List Call)
+    → totalOf (after (freshPump n) cs .core .totals) d ≡ volume d (sinceCleared d (trace (freshPump n) cs))
 unfolding sinceCleared
-totals-right d cs =
-    follows (since d) (Agree d) (keeps d) freshPump [] cs (starts d)
-    ∙ ap (volume d) (noted-fold (since d) [] (trace freshPump cs))
+totals-right n d cs =
+    follows (since d) (Agree d) (keeps d) (freshPump n) [] cs (starts n d)
+    ∙ ap (volume d) (noted-fold (since d) [] (trace (freshPump n) cs))

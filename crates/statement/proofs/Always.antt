@@ -1,7 +1,11 @@
--- From power-up on, whatever calls come: the state is always sound, and no call is ever refused because it is not.
+-- From power-up on, whatever calls come, for each number of phases that a model may have:
+--     phases-after    there are as many phases as there were, whatever their number
+--     whole-after     the state is whole, so it is sound
+--     refused-after   the next call is refused as the table says of a sound state
+--     never-unsound   and never because it is not sound
 -- Assumes nothing.
 use Prim.Native.Nat.{ℕ}
-use mathlib.Core.Path.{_≡_, refl, sym, ap, _∙_}
+use mathlib.Core.Path.{_≡_, refl, sym, ap, _∙_, subst}
 use mathlib.Core.Bool.{Bool, true, false}
 use mathlib.Core.List.{List, [], _∷_}
 use native.Mathlib.Omega.{arith}
@@ -10,15 +14,16 @@ use lib.ListN.{length}
 use Rattle.base.specs.If.{if_then_else_}
 use Rattle.engine.specs.Edges.{pinTwo, pinFour, pinSix}
 use Rattle.pump.specs.Calls.{ticked, tickCall, edged, levelled, pinCall}
-use Rattle.pump.specs.Holder.{withCore, freshPump, soundPump}
+use Rattle.pump.specs.Holder.{phaseCount, withCore, freshPump, soundPump}
 use Rattle.pump.specs.Reports.{numberOf, refused, reported}
 use Rattle.pump.specs.declared.holder.Pump.{Pump}
 use Rattle.pump.specs.declared.reports.Refusal.the-variants.{Accepted, ShortBuffer, NoPin, NoLevel, Unsound}
 use Rattle.pump.specs.declared.reports.Report.{Report}
-use Rattle.statement.specs.Histories.{Call, byteIn, pinAt, tickIn, reportAfter, after, Whole, isPin, refusalOf, refusalWhole}
+use Rattle.statement.specs.Histories.{Call, byteIn, pinAt, tickIn, reportAfter, after, Model, Whole, isPin, refusalOf, refusalWhole}
 use Rattle.statement.proofs.Bytes.{byte-stays-whole}
+use Rattle.statement.proofs.Counting.{byte-count}
 use Rattle.statement.proofs.Refused.{refused-as-listed}
-use Rattle.statement.proofs.Wholes.{fresh-whole, tick-whole, pin-whole}
+use Rattle.statement.proofs.Wholes.{fresh-count, fresh-whole, tick-whole, pin-whole}
 
 -- ---- a call that replaces only the core leaves the phases and the line
 record Beside (p q : Pump) : Type 0 where
@@ -28,7 +33,7 @@ record Beside (p q : Pump) : Type 0 where
 beside-whole : (p q : Pump) → Whole p → Beside p q → soundPump q ≡ true → Whole q
 beside-whole p q w b e =
     record {
-      full = ap length (b .phases-same) ∙ w .full;
+      model = subst Model (sym (ap length (b .phases-same))) (w .model);
       places = rw (b .line-same) (w .places);
       sound = e;
     }
@@ -95,11 +100,21 @@ module _ (p : Pump) where
       go true false false false = same
       go false t u v = same
 
--- ---- every call keeps a whole state whole
+-- ---- every call keeps the number of phases, and a whole state whole
+pub call-phases : (p : Pump) (c : Call) → phaseCount (reportAfter p c .pump) ≡ phaseCount p
+call-phases p (byteIn b buffer) = byte-count p b buffer
+call-phases p (pinAt pin level) = ap length (pin-beside p pin level .phases-same)
+call-phases p tickIn = ap length (tick-beside p .phases-same)
+
+pub after-phases : (p : Pump) (calls : List Call) → phaseCount (after p calls) ≡ phaseCount p
+unfolding after
+after-phases p [] = refl
+after-phases p (c ∷ calls) = after-phases (reportAfter p c .pump) calls ∙ call-phases p c
+
 pub call-whole : (p : Pump) (c : Call) → Whole p → Whole (reportAfter p c .pump)
 call-whole p (byteIn b buffer) w = byte-stays-whole p b buffer w
-call-whole p (pinAt pin level) w = beside-whole p _ w (pin-beside p pin level) (pin-whole p (w .full) (w .sound) pin level)
-call-whole p tickIn w = beside-whole p _ w (tick-beside p) (tick-whole p (w .full) (w .sound))
+call-whole p (pinAt pin level) w = beside-whole p _ w (pin-beside p pin level) (pin-whole p (w .model .few) (w .sound) pin level)
+call-whole p tickIn w = beside-whole p _ w (tick-beside p) (tick-whole p (w .model .few) (w .sound))
 
 pub after-whole : (p : Pump) (calls : List Call) → Whole p → Whole (after p calls)
 unfolding after
@@ -107,11 +122,14 @@ after-whole p [] w = w
 after-whole p (c ∷ calls) w = after-whole (reportAfter p c .pump) calls (call-whole p c w)
 
 -- ---- from power-up on
-pub whole-after : (calls : List Call) → Whole (after freshPump calls)
-whole-after calls = after-whole freshPump calls fresh-whole
+pub phases-after : (n : ℕ) (calls : List Call) → phaseCount (after (freshPump n) calls) ≡ n
+phases-after n calls = after-phases (freshPump n) calls ∙ fresh-count n
 
-pub sound-after : (calls : List Call) → soundPump (after freshPump calls) ≡ true
-sound-after calls = whole-after calls .sound
+pub whole-after : (n : ℕ) → Model n → (calls : List Call) → Whole (after (freshPump n) calls)
+whole-after n m calls = after-whole (freshPump n) calls (fresh-whole n m)
+
+pub sound-after : (n : ℕ) → Model n → (calls : List Call) → soundPump (after (freshPump n) calls) ≡ true
+sound-after n m calls = whole-after n m calls .sound
 
 -- ---- what is refused then, whatever came before
 listed-whole : (p : Pump) (c : Call) → soundPump p ≡ true → refusalOf p c ≡ refusalWhole c
@@ -119,8 +137,10 @@ listed-whole p (byteIn b buffer) e = simp e
 listed-whole p (pinAt pin level) e = simp e
 listed-whole p tickIn e = simp e
 
-pub refused-after : (calls : List Call) (c : Call) → reportAfter (after freshPump calls) c .refusal ≡ refusalWhole c
-refused-after calls c = refused-as-listed (after freshPump calls) c ∙ listed-whole (after freshPump calls) c (sound-after calls)
+pub refused-after :
+    (n : ℕ) → Model n → (calls : List Call) (c : Call) → reportAfter (after (freshPump n) calls) c .refusal ≡ refusalWhole c
+refused-after n m calls c =
+    refused-as-listed (after (freshPump n) calls) c ∙ listed-whole (after (freshPump n) calls) c (sound-after n m calls)
 
 not-unsound : (c : Call) → numberOf (refusalWhole c) ≡ 4 → ⊥
 not-unsound (byteIn b buffer) = go (ltb (length buffer) 24)
@@ -136,5 +156,5 @@ not-unsound (pinAt pin level) = go (isPin pin) (ltb 1 level)
     go false u e = omega arith
 not-unsound tickIn = λ e. omega arith
 
-pub never-unsound : (calls : List Call) (c : Call) → reportAfter (after freshPump calls) c .refusal ≡ Unsound → ⊥
-never-unsound calls c e = not-unsound c (ap numberOf (sym (refused-after calls c) ∙ e))
+pub never-unsound : (n : ℕ) → Model n → (calls : List Call) (c : Call) → reportAfter (after (freshPump n) calls) c .refusal ≡ Unsound → ⊥
+never-unsound n m calls c e = not-unsound c (ap numberOf (sym (refused-after n m calls c) ∙ e))

@@ -1,7 +1,7 @@
 -- A byte: whatever it ends, the state stays whole.
 -- Assumes nothing.
 use Prim.Native.Nat.{ℕ, _+_, _-_, _≤_, _<_}
-use mathlib.Core.Path.{_≡_, refl, sym, ap, _∙_}
+use mathlib.Core.Path.{_≡_, refl, sym, ap, _∙_, subst}
 use mathlib.Core.Bool.{Bool, true, false, _&&_}
 use mathlib.Core.List.{List}
 use native.Mathlib.Omega.{arith}
@@ -35,25 +35,25 @@ use Rattle.program.specs.Functions.{isPhase}
 use Rattle.program.specs.Phases.{soundPhase}
 use Rattle.program.specs.declared.phases.Phase.{Phase}
 use Rattle.pump.specs.Calls.{arrivedReport, received, byteReport}
-use Rattle.pump.specs.Holder.{phaseCount, freshPump, phaseAt, withCore, withLine, withPhase, inHand, soundPump}
+use Rattle.pump.specs.Holder.{phaseCount, freshPump, phaseAt, withCore, withLine, withPhase, inHand, soundPhases, soundPump}
 use Rattle.pump.specs.Lines.{Said, quiet, saying, reportOf, isReset, resetPump, done, obeyedWith, obeyed, oursBy, ours, afterLine}
 use Rattle.pump.specs.Reports.{refused, reported}
 use Rattle.pump.specs.declared.holder.Pump.{Pump}
 use Rattle.pump.specs.declared.reports.Refusal.the-variants.{ShortBuffer, Unsound}
 use Rattle.pump.specs.declared.reports.Report.{Report}
 use Rattle.pump.proofs.Phases.{pump-phases, pump-core, pump-line}
-use Rattle.statement.specs.Histories.{Whole}
+use Rattle.statement.specs.Histories.{Model, Whole}
 use Rattle.statement.proofs.Placing.{placed-at, same-at, placed-sound}
 use Rattle.statement.proofs.Wholes.{pump-sound, core-sound, table-here, fresh-whole}
 
 -- ---- one part replaced
-core-whole : (p : Pump) → Whole p → (s : Core) → Kept phaseCount (phaseAt (p .phases)) s → Whole (withCore p s)
-core-whole p w s k = record { full = w .full; places = w .places; sound = core-sound p (w .sound) s k }
+core-whole : (p : Pump) → Whole p → (s : Core) → Kept (phaseCount p) (phaseAt (p .phases)) s → Whole (withCore p s)
+core-whole p w s k = record { model = w .model; places = w .places; sound = core-sound p (w .sound) s k }
 
 line-whole : (p : Pump) → Whole p → (l : Line) → length (l .bytes) ≡ 40 → soundLine l ≡ true → Whole (withLine p l)
 line-whole p w l h e =
     record {
-      full = w .full;
+      model = w .model;
       places = h;
       sound = pump-sound (withLine p l) (pump-phases p (w .sound)) (pump-core p (w .sound)) e;
     }
@@ -63,12 +63,12 @@ phase-whole :
     (p : Pump) (s : Core) (n : ℕ) (x : Phase)
     → Whole p
     → 1 ≤ n
-    → soundPhase phaseCount x ≡ true
-    → (phaseCount < n → x ≡ phaseAt (p .phases) n)
-    → Kept phaseCount (kept.withPhase (phaseAt (p .phases)) n x) s
+    → soundPhase (phaseCount p) x ≡ true
+    → (phaseCount p < n → x ≡ phaseAt (p .phases) n)
+    → Kept (phaseCount p) (kept.withPhase (phaseAt (p .phases)) n x) s
     → Whole (withPhase (withCore p s) n x)
 unfolding withPhase
-phase-whole p s n x w lo e past k = go (isPhase phaseCount n) refl
+phase-whole p s n x w lo e past k = go (isPhase (phaseCount p) n) refl
   where
     ps : List Phase
     ps = p .phases
@@ -76,39 +76,50 @@ phase-whole p s n x w lo e past k = go (isPhase phaseCount n) refl
     current : ℕ
     current = s .run .place .current
 
-    within : isPhase phaseCount n ≡ true → n ≤ length ps
-    within t = let h = leb-true n phaseCount (and-right (leb 1 n) (leb n phaseCount) t) in omega (arith, w .full)
+    set-there : List Phase
+    set-there = set ps (n - 1) x
 
-    beyond : isPhase phaseCount n ≡ false → phaseCount < n
-    beyond t = pick (leb 1 n) (leb n phaseCount) refl refl t
+    as-many : length set-there ≡ length ps
+    as-many = length-set ps (n - 1) x
+
+    within : isPhase (length ps) n ≡ true → n ≤ length ps
+    within t = leb-true n (length ps) (and-right (leb 1 n) (leb n (length ps)) t)
+
+    beyond : isPhase (length ps) n ≡ false → length ps < n
+    beyond t = pick (leb 1 n) (leb n (length ps)) refl refl t
       where
-        pick : (a b : Bool) → leb 1 n ≡ a → leb n phaseCount ≡ b → (a && b) ≡ false → phaseCount < n
+        pick : (a b : Bool) → leb 1 n ≡ a → leb n (length ps) ≡ b → (a && b) ≡ false → length ps < n
         pick true true q r z = false-true (sym z)
-        pick true false q r z = leb-false n phaseCount r
+        pick true false q r z = leb-false n (length ps) r
         pick false b q r z = let y = leb-false 1 n q in absurd (omega (arith, lo))
 
     go :
         (t : Bool)
-        → isPhase phaseCount n ≡ t
+        → isPhase (length ps) n ≡ t
         → Whole
         (if t
         then record { phases = set (p .phases) (n - 1) x; core = s; line = p .line }
         else record { phases = p .phases; core = s; line = p .line })
     go true t =
         record {
-          full = length-set ps (n - 1) x ∙ w .full;
+          model = subst Model (sym as-many) (w .model);
           places = w .places;
           sound =
-              pump-sound _ (placed-sound ps (n - 1) x (pump-phases p (w .sound)) e)
-              (ap (soundCore phaseCount s) (placed-at ps n current x lo (within t)) ∙ k) (pump-line p (w .sound));
+              pump-sound _
+              (ap (λ (c : ℕ). soundPhases c set-there) as-many
+              ∙ placed-sound (length ps) ps (n - 1) x (pump-phases p (w .sound)) e)
+              (ap (λ (c : ℕ). soundCore c s (phaseAt set-there current)) as-many
+              ∙ ap (soundCore (length ps) s) (placed-at ps n current x lo (within t))
+              ∙ k)
+              (pump-line p (w .sound));
         }
     go false t =
         record {
-          full = w .full;
+          model = w .model;
           places = w .places;
           sound =
               pump-sound _ (pump-phases p (w .sound))
-              (ap (soundCore phaseCount s) (same-at ps n current x (past (beyond t))) ∙ k) (pump-line p (w .sound));
+              (ap (soundCore (length ps) s) (same-at ps n current x (past (beyond t))) ∙ k) (pump-line p (w .sound));
         }
 
 -- ---- what is said, of a whole state
@@ -124,7 +135,7 @@ module _ (p : Pump) (w : Whole p) where
   abbrev look : ℕ → Phase
   look = phaseAt (p .phases)
 
-  core-kept : Kept phaseCount look (p .core)
+  core-kept : Kept (phaseCount p) look (p .core)
   core-kept = pump-core p (w .sound)
 
   -- ---- a command
@@ -133,22 +144,24 @@ module _ (p : Pump) (w : Whole p) where
   least = go (operating (p .core))
     where
       go : (t : Bool) → 1 ≤ (if t then p .core .run .place .current else p .core .chosen)
-      go true = under-of phaseCount (p .core) _ core-kept .least
-      go false = leb-true 1 (p .core .chosen) (outside-of phaseCount (p .core) _ core-kept .chosen-least)
+      go true = under-of (phaseCount p) (p .core) _ core-kept .least
+      go false = leb-true 1 (p .core .chosen) (outside-of (phaseCount p) (p .core) _ core-kept .chosen-least)
 
   obeyed-with-whole : (command : Command) → Sendable command → WholeSaid (obeyedWith p (done p command))
   unfolding done inHand
   obeyed-with-whole command d =
-      let table = table-here p (w .full) (w .sound) in
+      let table = table-here p (w .model .few) (w .sound) in
       let next = look (inHand p + 1) .function in
       phase-whole p (done p command .core) (inHand p) (done p command .here) w least
-      (obey-phase-sound phaseCount look table (p .core) core-kept next command d)
-      (obey-past phaseCount look table (p .core) core-kept next command d)
-      (obey-kept phaseCount look table (p .core) core-kept next command d)
+      (obey-phase-sound (phaseCount p) look table (p .core) core-kept next command d)
+      (obey-past (phaseCount p) look table (p .core) core-kept next command d)
+      (obey-kept (phaseCount p) look table (p .core) core-kept next command d)
 
   reset-whole : Whole (resetPump p)
   unfolding resetPump
-  reset-whole = core-whole freshPump fresh-whole (resetCore (p .core)) (reset-sound phaseCount (omega arith) (p .core) _)
+  reset-whole =
+      let fresh = fresh-whole (phaseCount p) (w .model) in
+      core-whole (freshPump (phaseCount p)) fresh (resetCore (p .core)) (reset-sound _ (fresh .model .some) (p .core) _)
 
   obeyed-whole : (command : Command) → Sendable command → WholeSaid (obeyed p command)
   unfolding obeyed
@@ -164,7 +177,7 @@ module _ (p : Pump) (w : Whole p) where
   ours-whole line = go (p .core .run .alarm)
     where
       go : (a : Pending) → WholeSaid (oursBy p line a)
-      go (Raised a) = core-whole p w (stopped (p .core)) (stopped-kept phaseCount look (p .core) core-kept)
+      go (Raised a) = core-whole p w (stopped (p .core)) (stopped-kept (phaseCount p) look (p .core) core-kept)
       go NoAlarm = obeyed-whole (commandIn line) (asked-sendable line)
 
 emptied-whole : (p : Pump) → Whole p → Whole (withLine p emptyLine)
@@ -207,12 +220,3 @@ byte-stays-whole p b buffer w = go (soundPump p) (ltb (length buffer) room)
     go true true = w
     go true false = received-whole p b buffer w
     go false t = w
-
-pub byte-whole :
-    (p : Pump) (b : ℕ) (buffer : List ℕ)
-    → length (p .phases) ≡ 41
-    → length (p .line .bytes) ≡ 40
-    → soundPump p ≡ true
-    → soundPump (byteReport p b buffer .pump) ≡ true
-byte-whole p b buffer full places e =
-    byte-stays-whole p b buffer (record { full = full; places = places; sound = e }) .sound

@@ -36,39 +36,39 @@ pub between-test : (least n most : ℕ) → Between least n most → (leb least 
 between-test least n most h = and-both (leb least n) (leb n most) (le-leb least n (h .0)) (le-leb n most (h .1))
 
 -- ---- a function's datum
-pub datum : (g : Function) → fits 41 g ≡ true → Datum g
-datum f.Rat h = tt
-datum f.Inc h = tt
-datum f.Dec h = tt
-datum f.Stp h = tt
-datum (f.Jmp n) h = between 1 n 41 h
-datum (f.Lop n) h = between 1 n 99 h
-datum f.Lps h = tt
-datum f.Lpe h = tt
-datum (f.Pas n) h = leb-true n 99 h
-datum (f.Tenths n) h = between 1 n 99 h
-datum (f.If n) h = between 1 n 41 h
-datum (f.Evn n) h = between 1 n 41 h
-datum f.Evr h = tt
-datum f.Bep h = tt
-datum (f.Out n) h = leb-true n 1 h
+pub datum : (phases : ℕ) (g : Function) → fits phases g ≡ true → Datum phases g
+datum phases f.Rat h = tt
+datum phases f.Inc h = tt
+datum phases f.Dec h = tt
+datum phases f.Stp h = tt
+datum phases (f.Jmp n) h = between 1 n phases h
+datum phases (f.Lop n) h = between 1 n 99 h
+datum phases f.Lps h = tt
+datum phases f.Lpe h = tt
+datum phases (f.Pas n) h = leb-true n 99 h
+datum phases (f.Tenths n) h = between 1 n 99 h
+datum phases (f.If n) h = between 1 n phases h
+datum phases (f.Evn n) h = between 1 n phases h
+datum phases f.Evr h = tt
+datum phases f.Bep h = tt
+datum phases (f.Out n) h = leb-true n 1 h
 
-pub datum-test : (g : Function) → Datum g → fits 41 g ≡ true
-datum-test f.Rat d = refl
-datum-test f.Inc d = refl
-datum-test f.Dec d = refl
-datum-test f.Stp d = refl
-datum-test (f.Jmp n) d = between-test 1 n 41 d
-datum-test (f.Lop n) d = between-test 1 n 99 d
-datum-test f.Lps d = refl
-datum-test f.Lpe d = refl
-datum-test (f.Pas n) d = le-leb n 99 d
-datum-test (f.Tenths n) d = between-test 1 n 99 d
-datum-test (f.If n) d = between-test 1 n 41 d
-datum-test (f.Evn n) d = between-test 1 n 41 d
-datum-test f.Evr d = refl
-datum-test f.Bep d = refl
-datum-test (f.Out n) d = le-leb n 1 d
+pub datum-test : (phases : ℕ) (g : Function) → Datum phases g → fits phases g ≡ true
+datum-test phases f.Rat d = refl
+datum-test phases f.Inc d = refl
+datum-test phases f.Dec d = refl
+datum-test phases f.Stp d = refl
+datum-test phases (f.Jmp n) d = between-test 1 n phases d
+datum-test phases (f.Lop n) d = between-test 1 n 99 d
+datum-test phases f.Lps d = refl
+datum-test phases f.Lpe d = refl
+datum-test phases (f.Pas n) d = le-leb n 99 d
+datum-test phases (f.Tenths n) d = between-test 1 n 99 d
+datum-test phases (f.If n) d = between-test 1 n phases d
+datum-test phases (f.Evn n) d = between-test 1 n phases d
+datum-test phases f.Evr d = refl
+datum-test phases f.Bep d = refl
+datum-test phases (f.Out n) d = le-leb n 1 d
 
 -- ---- rate phases, and PAS 0
 abbrev pub RatePhase : Function → Type 0

@@ -32,7 +32,7 @@ use Rattle.engine.specs.declared.state.Trap.the-variants.{NoTrap, Armed}
 use Rattle.engine.specs.declared.state.Work.{Work}
 use Rattle.engine.specs.declared.state.Work.the-variants.{Entering, Visiting, Pausing, Waiting}
 use Rattle.engine.proofs.Readiness.{stored-rate-writable, stored-volume-writable, datum-fits}
-use Rattle.pump.specs.Holder.{phaseCount, stopPhase, soundPhases}
+use Rattle.pump.specs.Holder.{stopPhase, soundPhases}
 use Rattle.statement.specs.Facts.{PhaseFacts, LineFacts, Nothing}
 use Rattle.statement.proofs.Clauses.{datum, datum-test, each-character, characters-test}
 
@@ -64,33 +64,39 @@ module _ (l : Line) where
       full false e = refl
 
 -- ---- the phases
-module _ (p : Phase) where
-  phase-facts : soundPhase phaseCount p ≡ true → PhaseFacts p
+module _ (phases : ℕ) (p : Phase) where
+  phase-facts : soundPhase phases p ≡ true → PhaseFacts phases p
   phase-facts h =
       record {
-        datum = datum (p .function) (datum-fits phaseCount p h);
-        rate = writable-iff (p .rate) .0 (stored-rate-writable phaseCount p h);
-        volume = writable-iff (p .volume) .0 (stored-volume-writable phaseCount p h);
+        datum = datum phases (p .function) (datum-fits phases p h);
+        rate = writable-iff (p .rate) .0 (stored-rate-writable phases p h);
+        volume = writable-iff (p .volume) .0 (stored-volume-writable phases p h);
       }
 
-  phase-test : PhaseFacts p → soundPhase phaseCount p ≡ true
+  phase-test : PhaseFacts phases p → soundPhase phases p ≡ true
   unfolding soundPhase
   phase-test k =
-      and-both _ (fits 41 (p .function))
+      and-both _ (fits phases (p .function))
       (and-both _ _ (writable-iff (p .rate) .1 (k .rate)) (writable-iff (p .volume) .1 (k .volume)))
-      (datum-test (p .function) (k .datum))
+      (datum-test phases (p .function) (k .datum))
 
-pub each-phase : (ps : List Phase) → soundPhases ps ≡ true → (i : ℕ) → i < length ps → PhaseFacts (getD ps i stopPhase)
+pub each-phase :
+    (phases : ℕ) (ps : List Phase) → soundPhases phases ps ≡ true → (i : ℕ) → i < length ps → PhaseFacts phases (getD ps i stopPhase)
 unfolding soundPhases
-each-phase [] h i k = absurd (not-suc-le-zero k)
-each-phase (p ∷ ps) h zero k = phase-facts p (and-left (soundPhase phaseCount p) (soundPhases ps) h)
-each-phase (p ∷ ps) h (suc i) k = each-phase ps (and-right (soundPhase phaseCount p) (soundPhases ps) h) i (omega arith)
+each-phase phases [] h i k = absurd (not-suc-le-zero k)
+each-phase phases (p ∷ ps) h zero k = phase-facts phases p (and-left (soundPhase phases p) (soundPhases phases ps) h)
+each-phase phases (p ∷ ps) h (suc i) k =
+    each-phase phases ps (and-right (soundPhase phases p) (soundPhases phases ps) h) i (omega arith)
 
-pub phases-test : (ps : List Phase) → ((i : ℕ) → i < length ps → PhaseFacts (getD ps i stopPhase)) → soundPhases ps ≡ true
+pub phases-test :
+    (phases : ℕ) (ps : List Phase)
+    → ((i : ℕ) → i < length ps → PhaseFacts phases (getD ps i stopPhase))
+    → soundPhases phases ps ≡ true
 unfolding soundPhases
-phases-test [] h = refl
-phases-test (p ∷ ps) h =
-    and-both (soundPhase phaseCount p) (soundPhases ps) (phase-test p (h 0 (omega arith))) (phases-test ps (λ i k. h (suc i) (omega arith)))
+phases-test phases [] h = refl
+phases-test phases (p ∷ ps) h =
+    and-both (soundPhase phases p) (soundPhases phases ps) (phase-test phases p (h 0 (omega arith)))
+    (phases-test phases ps (λ i k. h (suc i) (omega arith)))
 
 -- ---- the mode: a stopped pump has nothing under way; an alarm is pending only in a stopped pump
 entering-of : (w : Work) → isEntering w ≡ true → w ≡ Entering

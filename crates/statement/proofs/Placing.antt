@@ -15,7 +15,7 @@ use Rattle.base.proofs.Each.{and-both}
 use Rattle.kept.specs.Kept.{withPhase}
 use Rattle.program.specs.Phases.{soundPhase}
 use Rattle.program.specs.declared.phases.Phase.{Phase}
-use Rattle.pump.specs.Holder.{phaseCount, stopPhase, phaseAt, soundPhases}
+use Rattle.pump.specs.Holder.{stopPhase, phaseAt, soundPhases}
 
 get-same : (ps : List Phase) (k : ℕ) (x : Phase) → k < length ps → getD (set ps k x) k stopPhase ≡ x
 get-same [] k x h = absurd (not-suc-le-zero h)
@@ -64,14 +64,14 @@ same-at ps n m x h = go (eqb m n) refl
 
 -- ---- every phase is sound
 pub placed-sound :
-    (ps : List Phase) (k : ℕ) (x : Phase)
-    → soundPhases ps ≡ true
-    → soundPhase phaseCount x ≡ true
-    → soundPhases (set ps k x) ≡ true
+    (phases : ℕ) (ps : List Phase) (k : ℕ) (x : Phase)
+    → soundPhases phases ps ≡ true
+    → soundPhase phases x ≡ true
+    → soundPhases phases (set ps k x) ≡ true
 unfolding soundPhases
-placed-sound [] k x h e = h
-placed-sound (p ∷ ps) zero x h e =
-    and-both (soundPhase phaseCount x) (soundPhases ps) e (and-right (soundPhase phaseCount p) (soundPhases ps) h)
-placed-sound (p ∷ ps) (suc k) x h e =
-    and-both (soundPhase phaseCount p) (soundPhases (set ps k x)) (and-left (soundPhase phaseCount p) (soundPhases ps) h)
-    (placed-sound ps k x (and-right (soundPhase phaseCount p) (soundPhases ps) h) e)
+placed-sound phases [] k x h e = h
+placed-sound phases (p ∷ ps) zero x h e =
+    and-both (soundPhase phases x) (soundPhases phases ps) e (and-right (soundPhase phases p) (soundPhases phases ps) h)
+placed-sound phases (p ∷ ps) (suc k) x h e =
+    and-both (soundPhase phases p) (soundPhases phases (set ps k x)) (and-left (soundPhase phases p) (soundPhases phases ps) h)
+    (placed-sound phases ps k x (and-right (soundPhase phases p) (soundPhases phases ps) h) e)

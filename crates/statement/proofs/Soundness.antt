@@ -49,14 +49,14 @@ no-target d volume e = rw e (simp (zero-mul, zero-div))
 
 -- ---- from the test to the facts
 module _ (p : Pump) (e : soundPump p ≡ true) where
-  core-ranges : soundRanges phaseCount (p .core) ≡ true
-  core-ranges = ranges-sound phaseCount (p .core) (hereOf p) (pump-core p e)
+  core-ranges : soundRanges (phaseCount p) (p .core) ≡ true
+  core-ranges = ranges-sound (phaseCount p) (p .core) (hereOf p) (pump-core p e)
 
-  run-each : Each (runTests phaseCount (p .core .run))
-  run-each = run-tests phaseCount (p .core .run) (run-sound phaseCount (p .core) core-ranges)
+  run-each : Each (runTests (phaseCount p) (p .core .run))
+  run-each = run-tests (phaseCount p) (p .core .run) (run-sound (phaseCount p) (p .core) core-ranges)
 
-  loop-each : Each (loopTests phaseCount (p .core .run .loops))
-  loop-each = loop-tests phaseCount (p .core .run .loops) (loops-sound phaseCount (p .core) core-ranges)
+  loop-each : Each (loopTests (phaseCount p) (p .core .run .loops))
+  loop-each = loop-tests (phaseCount p) (p .core .run .loops) (loops-sound (phaseCount p) (p .core) core-ranges)
 
   mode-sound : soundMode (p .core .run) (p .core .run .mode) ≡ true
   mode-sound = run-each .1 .1 .1 .1 .1 .0
@@ -64,20 +64,20 @@ module _ (p : Pump) (e : soundPump p ≡ true) where
   ranges : Ranges p
   ranges =
       record {
-        diameter = (diameter-ge phaseCount (p .core) core-ranges, diameter-le phaseCount (p .core) core-ranges);
-        chosen = (chosen-ge phaseCount (p .core) core-ranges, chosen-le phaseCount (p .core) core-ranges);
-        infused = infused-le phaseCount (p .core) core-ranges;
-        withdrawn = withdrawn-le phaseCount (p .core) core-ranges;
-        current = (current-ge phaseCount (p .core) core-ranges, current-le phaseCount (p .core) core-ranges);
-        rate = rate-le phaseCount (p .core) core-ranges;
-        trap = λ n k. between 1 n 41 (sym (ap (soundTrap 41) k) ∙ run-each .1 .1 .1 .0);
-        begun = λ i k. slot-bounded phaseCount (p .core .run .loops) loop-each i k .0;
+        diameter = (diameter-ge (phaseCount p) (p .core) core-ranges, diameter-le (phaseCount p) (p .core) core-ranges);
+        chosen = (chosen-ge (phaseCount p) (p .core) core-ranges, chosen-le (phaseCount p) (p .core) core-ranges);
+        infused = infused-le (phaseCount p) (p .core) core-ranges;
+        withdrawn = withdrawn-le (phaseCount p) (p .core) core-ranges;
+        current = (current-ge (phaseCount p) (p .core) core-ranges, current-le (phaseCount p) (p .core) core-ranges);
+        rate = rate-le (phaseCount p) (p .core) core-ranges;
+        trap = λ n k. between 1 n (phaseCount p) (sym (ap (soundTrap (phaseCount p)) k) ∙ run-each .1 .1 .1 .0);
+        begun = λ i k. slot-bounded (phaseCount p) (p .core .run .loops) loop-each i k .0;
         line = line-facts (p .line) (pump-line p e);
       }
 
   visit-facts : (v : Visit) → underWay p ≡ Visiting v → VisitFacts p v
   visit-facts v k =
-      let s = visit-sound phaseCount (p .core) (hereOf p) (pump-core p e) v k in
+      let s = visit-sound (phaseCount p) (p .core) (hereOf p) (pump-core p e) v k in
       let t = visit-tests (p .core .diameter) (hereOf p) (p .core .run .rate) v s in
       record {
         store-below = ltb-true (v .store) (threshold (p .core .diameter)) (t .0);
@@ -107,18 +107,18 @@ module _ (p : Pump) (e : soundPump p ≡ true) where
   work : (w : Work) → underWay p ≡ w → soundWork (p .core .diameter) (hereOf p) (p .core .run .rate) w ≡ true
   work w k =
       sym (ap (soundWork (p .core .diameter) (hereOf p) (p .core .run .rate)) k)
-      ∙ work-sound phaseCount (p .core) (hereOf p) (pump-core p e)
+      ∙ work-sound (phaseCount p) (p .core) (hereOf p) (pump-core p e)
 
   pub sound-facts : Sound p
   sound-facts =
       record {
         ranges = ranges;
-        diameter-writable = writable-iff (p .core .diameter) .0 (diameter-writable phaseCount (p .core) core-ranges);
-        phases = each-phase (p .phases) (pump-phases p e);
-        three-loops = three phaseCount (p .core .run .loops) loop-each;
-        different-phases = slots-differ phaseCount (p .core .run .loops) loop-each;
+        diameter-writable = writable-iff (p .core .diameter) .0 (diameter-writable (phaseCount p) (p .core) core-ranges);
+        phases = each-phase (phaseCount p) (p .phases) (pump-phases p e);
+        three-loops = three (phaseCount p) (p .core .run .loops) loop-each;
+        different-phases = slots-differ (phaseCount p) (p .core .run .loops) loop-each;
         visit = visit-facts;
-        passes-few = λ i k. slot-bounded phaseCount (p .core .run .loops) loop-each i k .1;
+        passes-few = λ i k. slot-bounded (phaseCount p) (p .core .run .loops) loop-each i k .1;
         pause = λ left k. between 1 left (pauseTicks (hereOf p .function)) (work (Pausing left) k);
         wait = λ k. wait-phase (hereOf p .function) (work Waiting k);
         stopped = nothing (p .core .run) (p .core .run .mode) mode-sound;
@@ -127,22 +127,22 @@ module _ (p : Pump) (e : soundPump p ≡ true) where
 
 -- ---- and back
 module _ (p : Pump) (s : Sound p) where
-  loops-test : soundLoops phaseCount (p .core .run .loops) ≡ true
+  loops-test : soundLoops (phaseCount p) (p .core .run .loops) ≡ true
   unfolding soundLoops
   loops-test =
-      all-of (loopTests phaseCount (p .core .run .loops))
-      (loop-tests-of phaseCount (p .core .run .loops) (s .three-loops)
+      all-of (loopTests (phaseCount p) (p .core .run .loops))
+      (loop-tests-of (phaseCount p) (p .core .run .loops) (s .three-loops)
       (λ i k. (s .ranges .begun i k, s .passes-few i k))
       (s .different-phases))
 
-  trap-test : (t : Trap) → p .core .run .trap ≡ t → soundTrap 41 t ≡ true
+  trap-test : (t : Trap) → p .core .run .trap ≡ t → soundTrap (phaseCount p) t ≡ true
   trap-test NoTrap e = refl
-  trap-test (Armed n) e = between-test 1 n 41 (s .ranges .trap n e)
+  trap-test (Armed n) e = between-test 1 n (phaseCount p) (s .ranges .trap n e)
 
-  run-test : soundRun phaseCount (p .core .run) ≡ true
+  run-test : soundRun (phaseCount p) (p .core .run) ≡ true
   unfolding soundRun
   run-test =
-      all-of (runTests phaseCount (p .core .run)) (
+      all-of (runTests (phaseCount p) (p .core .run)) (
         le-leb _ _ (s .ranges .current .0),
         (
           le-leb _ _ (s .ranges .current .1),
@@ -156,10 +156,10 @@ module _ (p : Pump) (s : Sound p) where
         ),
       )
 
-  ranges-test : soundRanges phaseCount (p .core) ≡ true
+  ranges-test : soundRanges (phaseCount p) (p .core) ≡ true
   unfolding soundRanges diameter
   ranges-test =
-      all-of (rangeTests phaseCount (p .core)) (
+      all-of (rangeTests (phaseCount p) (p .core)) (
         between-test 100 (p .core .diameter) 50_000 (s .ranges .diameter),
         (
           writable-iff (p .core .diameter) .1 (s .diameter-writable),
@@ -212,9 +212,9 @@ module _ (p : Pump) (s : Sound p) where
   pub sound-test : soundPump p ≡ true
   unfolding soundPump soundCore
   sound-test =
-      and-both (soundPhases (p .phases)) _ (phases-test (p .phases) (s .phases))
+      and-both (soundPhases (phaseCount p) (p .phases)) _ (phases-test (phaseCount p) (p .phases) (s .phases))
       (and-both _ (soundLine (p .line))
-      (and-both (soundRanges phaseCount (p .core)) _ ranges-test (work-test (underWay p) refl))
+      (and-both (soundRanges (phaseCount p) (p .core)) _ ranges-test (work-test (underWay p) refl))
       (line-test (p .line) (s .ranges .line)))
 
 pub sound-iff : (p : Pump) → (soundPump p ≡ true) ↔ Sound p

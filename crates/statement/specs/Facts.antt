@@ -2,7 +2,7 @@
 -- calls run says just this is a theorem (proofs/Soundness.antt, sound-iff). Three clauses hold by the types of the state, and have no
 -- field here: the store is 0 outside a visit, at most one of visit, timed pause and trigger wait is under way, and each has its own
 -- data.   (01, Calls; Numbers; Volumes)
-use Prim.Native.Nat.{ℕ, _*_, _≤_, _<_}
+use Prim.Native.Nat.{ℕ, _+_, _*_, _≤_, _<_}
 use mathlib.Core.Path.{_≡_}
 use mathlib.Core.Logic.{_⊎_}
 use mathlib.Core.Bool.{true}
@@ -29,7 +29,7 @@ use Rattle.engine.specs.declared.state.Run.{Run}
 use Rattle.engine.specs.declared.state.Trap.the-variants.{NoTrap, Armed}
 use Rattle.engine.specs.declared.state.Work.{Work}
 use Rattle.engine.specs.declared.state.Work.the-variants.{Entering, Visiting, Pausing, Waiting}
-use Rattle.pump.specs.Holder.{stopPhase, phaseAt}
+use Rattle.pump.specs.Holder.{phaseCount, stopPhase, phaseAt}
 use Rattle.pump.specs.declared.holder.Pump.{Pump}
 
 abbrev pub Between : ℕ → ℕ → ℕ → Type 0
@@ -39,26 +39,27 @@ Between least n most = (least ≤ n) × (n ≤ most)
 abbrev pub Writable : ℕ → Type 0
 Writable x = (s : List ℕ) × (readOf s ≡ Number x)
 
--- a function's datum is in its range: phases 1 to 41, counts 1 to 99, PAS up to 99 s or 0.1 to 9.9 s, levels 0 and 1
-abbrev pub Datum : Function → Type 0
-Datum f.Rat = Unit {0}
-Datum f.Inc = Unit {0}
-Datum f.Dec = Unit {0}
-Datum f.Stp = Unit {0}
-Datum (f.Jmp n) = Between 1 n 41
-Datum (f.Lop n) = Between 1 n 99
-Datum f.Lps = Unit {0}
-Datum f.Lpe = Unit {0}
-Datum (f.Pas n) = n ≤ 99
-Datum (f.Tenths n) = Between 1 n 99
-Datum (f.If n) = Between 1 n 41
-Datum (f.Evn n) = Between 1 n 41
-Datum f.Evr = Unit {0}
-Datum f.Bep = Unit {0}
-Datum (f.Out n) = n ≤ 1
+-- a function's datum is in its range in a pump of so many phases: a phase from 1 to the last, counts 1 to 99, PAS up to 99 s or 0.1 to
+-- 9.9 s, levels 0 and 1
+abbrev pub Datum : ℕ → Function → Type 0
+Datum phases f.Rat = Unit {0}
+Datum phases f.Inc = Unit {0}
+Datum phases f.Dec = Unit {0}
+Datum phases f.Stp = Unit {0}
+Datum phases (f.Jmp n) = Between 1 n phases
+Datum phases (f.Lop n) = Between 1 n 99
+Datum phases f.Lps = Unit {0}
+Datum phases f.Lpe = Unit {0}
+Datum phases (f.Pas n) = n ≤ 99
+Datum phases (f.Tenths n) = Between 1 n 99
+Datum phases (f.If n) = Between 1 n phases
+Datum phases (f.Evn n) = Between 1 n phases
+Datum phases f.Evr = Unit {0}
+Datum phases f.Bep = Unit {0}
+Datum phases (f.Out n) = n ≤ 1
 
-pub record PhaseFacts (p : Phase) : Type 0 where
-  pub datum : Datum (p .function)
+pub record PhaseFacts (phases : ℕ) (p : Phase) : Type 0 where
+  pub datum : Datum phases (p .function)
   pub rate : Writable (p .rate)
   pub volume : Writable (p .volume)
 
@@ -74,16 +75,16 @@ pub record LineFacts (l : Line) : Type 0 where
   pub overlong-full : l .overlong ≡ true → 40 ≤ l .len
   pub characters : (i : ℕ) → i < length (text l) → Character (getD (text l) i 0)
 
--- every field is in the range given
+-- every field is in the range given; the current phase is at most one past the last
 pub record Ranges (p : Pump) : Type 0 where
   pub diameter : Between 100 (p .core .diameter) 50_000
-  pub chosen : Between 1 (p .core .chosen) 41
+  pub chosen : Between 1 (p .core .chosen) (phaseCount p)
   pub infused : p .core .totals .infused ≤ 1_000_000_000_000_000_000
   pub withdrawn : p .core .totals .withdrawn ≤ 1_000_000_000_000_000_000
-  pub current : Between 1 (p .core .run .place .current) 42
+  pub current : Between 1 (p .core .run .place .current) (phaseCount p + 1)
   pub rate : ratio (p .core .run .rate) ≤ 9_999_000
-  pub trap : (n : ℕ) → p .core .run .trap ≡ Armed n → Between 1 n 41
-  pub begun : (i : ℕ) → i < p .core .run .loops .count → slot (p .core .run .loops) i .begun ≤ 41
+  pub trap : (n : ℕ) → p .core .run .trap ≡ Armed n → Between 1 n (phaseCount p)
+  pub begun : (i : ℕ) → i < p .core .run .loops .count → slot (p .core .run .loops) i .begun ≤ phaseCount p
   pub line : LineFacts (p .line)
 
 -- what is under way, and the phase that it stands in
@@ -117,7 +118,7 @@ pub record Sound (p : Pump) : Type 0 where
   -- every field is in its range, and stored numbers are writable
   pub ranges : Ranges p
   pub diameter-writable : Writable (p .core .diameter)
-  pub phases : (i : ℕ) → i < length (p .phases) → PhaseFacts (getD (p .phases) i stopPhase)
+  pub phases : (i : ℕ) → i < phaseCount p → PhaseFacts (phaseCount p) (getD (p .phases) i stopPhase)
   -- open loops are at most three, begun by different phases
   pub three-loops : p .core .run .loops .count ≤ 3
   pub different-phases :

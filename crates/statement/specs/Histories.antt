@@ -1,5 +1,5 @@
 -- Histories of calls: what one call reports, the state after many, and what a refusal leaves as it was.   (01, Calls)
-use Prim.Native.Nat.{ℕ}
+use Prim.Native.Nat.{ℕ, _≤_}
 use mathlib.Core.Path.{_≡_}
 use mathlib.Core.Bool.{Bool, true, _||_}
 use mathlib.Core.List.{List, [], _∷_}
@@ -7,7 +7,7 @@ use lib.Dec.{ltb, eqb}
 use lib.ListN.{length}
 use Rattle.base.specs.If.{if_then_else_}
 use Rattle.pump.specs.Calls.{tickCall, pinCall, byteReport, byteBuffer}
-use Rattle.pump.specs.Holder.{soundPump}
+use Rattle.pump.specs.Holder.{phaseCount, soundPump}
 use Rattle.pump.specs.declared.holder.Pump.{Pump}
 use Rattle.pump.specs.declared.reports.Refusal.{Refusal}
 use Rattle.pump.specs.declared.reports.Refusal.the-variants.{Accepted, ShortBuffer, NoPin, NoLevel, Unsound}
@@ -42,9 +42,15 @@ unfoldable pub after : Pump → List Call → Pump
 after p [] = p
 after p (c ∷ cs) = after (reportAfter p c .pump) cs
 
--- a sound state with its 41 phases and the 40 places of its line, as the types of the code have them
+-- a model of the pump has 1 to 99 phases, as many as one or two digits can name   (01, Numbers: "Phase, count and whole second arguments
+-- have one or two digits")
+pub record Model (n : ℕ) : Type 0 where
+  pub some : 1 ≤ n
+  pub few : n ≤ 99
+
+-- a sound state of a model, with the 40 places of its line, as the types of the code have them
 pub record Whole (p : Pump) : Type 0 where
-  pub full : length (p .phases) ≡ 41
+  pub model : Model (phaseCount p)
   pub places : length (p .line .bytes) ≡ 40
   pub sound : soundPump p ≡ true
 

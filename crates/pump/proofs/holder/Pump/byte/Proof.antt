@@ -1,5 +1,8 @@
 -- `Pump::byte` meets its contract, whatever it is given: the whole report and the whole buffer.
 -- Assumes nothing.
+use Prim.Native.Nat.{_≤_}
+use native.Mathlib.Omega.{arith}
+use lib.ListN.{length, length-map}
 use Rattle.pump.proofs.Calling.{handy-now, bytes}
 use borrow.Author.Needs.{needs}
 use Rattle.pump.proofs.holder.Pump.byte.Statement.{statement}
@@ -15,7 +18,11 @@ returns : tie.Need-returns
 returns c = search bytes
 
 received-requires : tie.Need-received-requires
-received-requires c κs = search handy-now
+received-requires c κs =
+    let first = c .before .before .before .before .before in
+    let full = simp length-map at (first .good .0 .1 .1 .0 .1 .0 .1) in
+    let few : length (first .args .self .phases) ≤ 99 = omega (arith, full) in
+    search handy-now
 
 same-length : tie.Need-same-length
 same-length c = search needs

@@ -6,7 +6,7 @@ use mathlib.Core.Logic.{⊎-elim}
 use mathlib.Core.Path.{_≡_, refl, _∙_}
 use native.Mathlib.Omega.{arith}
 use lib.ListN.{length-map}
-use Rattle.pump.specs.Holder.{phaseAt}
+use Rattle.pump.specs.Holder.{modelPhases, phaseAt}
 use Rattle.pump.proofs.Holding.{checked-as, whole-sound, phase-unsound}
 use Rattle.pump.proofs.Phases.{phase-read, phase-over, phase-under, Tested, tested-none, tested-more, one-unsound, tested-all}
 use borrow.Author.Needs.{needs}
@@ -14,7 +14,7 @@ use Rattle.pump.proofs.holder.Pump.checked.Statement.{statement}
 use Rattle.pump.proofs.holder.Pump.checked.Tie as tie
 
 abbrev Inv-loop : tie.InvT-loop
-Inv-loop phases core line n here i₀ i = (here ≡ phaseAt phases n) × Tested phases i
+Inv-loop phases core line n here i₀ i = (here ≡ phaseAt phases n) × Tested modelPhases phases i
 
 abbrev μ-loop : tie.MeasureT-loop
 μ-loop phases core line n here i₀ i = 41 - i
@@ -42,7 +42,7 @@ loop-holds c =
           (⊎-elim (λ (w : _). phase-over ps n (c .if1 .here) full (w .1 .left) (w .2 ∙ stops))
           (λ (w : _). phase-under ps n (c .if1 .here) full (w .0 .left) (w .1 ∙ stops)))
           (c .if1 .came),
-      tested-none ps,
+      tested-none modelPhases ps,
     )
 
 mul-p : tie.Need-mul-p Inv-loop μ-loop
@@ -93,7 +93,7 @@ returns-2 c =
     let full = simp length-map at (k .good .0 .1 .1 .0 .1 .0 .1) in
     let all = tested-all (k .args .self .phases) (turn .loop .i) full (turn .loop .inv .1) (omega arith) in
     checked-as (k .args .self) _ (turn .loop .inv .0)
-    (whole-sound (k .args .self) true all _ _ _ refl (turn .loop .inv .0) (c .before .sound2 .ensures) (c .sound3 .ensures))
+    (whole-sound (k .args .self) true all _ _ _ full refl (turn .loop .inv .0) (c .before .sound2 .ensures) (c .sound3 .ensures))
 
 pub checked-spec : {M : Type 1} → statement M
 checked-spec =

@@ -2,6 +2,7 @@
 -- Assumes nothing.
 use Prim.Native.Nat.{_≤_}
 use native.Mathlib.Omega.{arith}
+use lib.ListN.{length-map}
 use Rattle.pump.proofs.Holding.{few-in-hand}
 use Rattle.pump.proofs.Saying.{done-as}
 use borrow.Author.Needs.{needs}
@@ -24,7 +25,9 @@ obey-requires : tie.Need-obey-requires
 obey-requires c κs = search needs
 
 returns : tie.Need-returns
-returns c = search done-as
+returns c =
+    let full = simp length-map at (c .before .before .before .before .before .good .0 .1 .1 .0 .1 .0 .1) in
+    search done-as
 
 pub done-spec : {M : Type 1} → statement M
 done-spec =

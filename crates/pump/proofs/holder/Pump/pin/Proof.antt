@@ -1,5 +1,8 @@
 -- `Pump::pin` meets its contract, whatever it is given.
 -- Assumes nothing.
+use Prim.Native.Nat.{_≤_}
+use native.Mathlib.Omega.{arith}
+use lib.ListN.{length, length-map}
 use Rattle.pump.proofs.Calling.{handy-now, pins}
 use borrow.Author.Needs.{needs}
 use Rattle.pump.proofs.holder.Pump.pin.Statement.{statement}
@@ -9,19 +12,31 @@ sound-requires : tie.Need-sound-requires
 sound-requires c κs = search needs
 
 levelled-requires : tie.Need-levelled-requires
-levelled-requires c κs = search handy-now
+levelled-requires c κs =
+    let first = c .before .before .before in
+    let full = simp length-map at (first .good .0 .1 .1 .0 .1 .0 .1) in
+    let few : length (first .args .self .phases) ≤ 99 = omega (arith, full) in
+    search handy-now
 
 returns : tie.Need-returns
 returns c = search pins
 
 levelled-requires-2 : tie.Need-levelled-requires-2
-levelled-requires-2 c κs = search handy-now
+levelled-requires-2 c κs =
+    let first = c .before .before .before in
+    let full = simp length-map at (first .good .0 .1 .1 .0 .1 .0 .1) in
+    let few : length (first .args .self .phases) ≤ 99 = omega (arith, full) in
+    search handy-now
 
 returns-2 : tie.Need-returns-2
 returns-2 c = search pins
 
 levelled-requires-3 : tie.Need-levelled-requires-3
-levelled-requires-3 c κs = search handy-now
+levelled-requires-3 c κs =
+    let first = c .before .before .before in
+    let full = simp length-map at (first .good .0 .1 .1 .0 .1 .0 .1) in
+    let few : length (first .args .self .phases) ≤ 99 = omega (arith, full) in
+    search handy-now
 
 returns-3 : tie.Need-returns-3
 returns-3 c = search pins

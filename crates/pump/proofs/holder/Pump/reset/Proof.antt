@@ -1,5 +1,6 @@
 -- `Pump::reset` meets its contract.
 -- Assumes nothing.
+use lib.ListN.{length-map}
 use Rattle.pump.proofs.Holding.{reset-as}
 use borrow.Author.Needs.{needs}
 use Rattle.pump.proofs.holder.Pump.reset.Statement.{statement}
@@ -15,7 +16,9 @@ with-core-requires : tie.Need-with-core-requires
 with-core-requires c κs = search needs
 
 returns : tie.Need-returns
-returns c = search reset-as
+returns c =
+    let full = simp length-map at (c .before .before .before .before .good .0 .1 .1 .0 .1 .0 .1) in
+    search reset-as
 
 pub reset-spec : {M : Type 1} → statement M
 reset-spec = tie.close (tie.spec new-requires reset-requires with-core-requires returns)

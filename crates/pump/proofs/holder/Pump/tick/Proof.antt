@@ -1,5 +1,7 @@
 -- `Pump::tick` meets its contract, whatever state it is given.
 -- Assumes nothing.
+use native.Mathlib.Omega.{arith}
+use lib.ListN.{length-map}
 use Rattle.pump.proofs.Calling.{ready-checked, tick-checked}
 use borrow.Author.Needs.{needs}
 use Rattle.pump.proofs.holder.Pump.tick.Statement.{statement}
@@ -9,7 +11,9 @@ checked-requires : tie.Need-checked-requires
 checked-requires c κs = search needs
 
 ticked-requires : tie.Need-ticked-requires
-ticked-requires c κs = search ready-checked
+ticked-requires c κs =
+    let full = simp length-map at (c .before .before .before .good .0 .1 .1 .0 .1 .0 .1) in
+    ready-checked _ _ (c .before .before .checked .ensures) full (omega arith)
 
 unless-requires : tie.Need-unless-requires
 unless-requires c κs = search needs

@@ -41,8 +41,7 @@ use Rattle.statement.specs.Outcomes.{Outcome, outcomeOf, TurnedDown, Still, Wri
 use Rattle.statement.specs.Outcomes.{Hears, collected, other-address, alarm-pending, reset, obeys, Told, Does, Meets}
 use Rattle.statement.proofs.Hearing.{reset-told}
 use Rattle.statement.proofs.Outcomes.{call-meets}
-use Rattle.events.specs.Events.{Event, eventOf, isAccepted}
-use Rattle.sheet.specs.Totals.{asksToClear, clears, ofWay}
+use Rattle.sheet.specs.Observations.{Event, eventOf, isAccepted, asksToClear, clears, ofWay}
 use Rattle.sheet.proofs.Clearing.{Books, no-return, not-ours, not-asked, not-five, all-hold, books-more, books-zero, books-same}
 use Rattle.sheet.proofs.CommandTotals.{Left, unasked, not-now, done, obey-left}
 use Rattle.sheet.proofs.EdgeTotals.{edge-totals}

@@ -12,8 +12,7 @@ use Rattle.line.specs.Lines.{addressIn, commandIn}
 use Rattle.program.specs.declared.phases.Direction.{Direction}
 use Rattle.program.specs.declared.phases.Direction.the-variants.{Infuse, Withdraw}
 use Rattle.dispense.specs.Totals.{totalOf}
-use Rattle.events.specs.Events.{Event, isAccepted}
-use Rattle.sheet.specs.Totals.{endsLine, asksToClear, clears, stepsTold, volumeOf}
+use Rattle.sheet.specs.Observations.{Event, isAccepted, endsLine, asksToClear, clears, stepsTold, volumeOf}
 use Rattle.sheet.proofs.TickTotals.{no-more}
 
 no-first : (t u : Bool) → t ≡ false → (t && u) ≡ false

@@ -24,7 +24,7 @@ use Rattle.engine.specs.Working.{withTotals}
 use Rattle.engine.specs.declared.settings.Obeyed.{Obeyed}
 use Rattle.engine.specs.declared.state.Core.{Core}
 use Rattle.pump.specs.Lines.{isReset}
-use Rattle.sheet.specs.Totals.{asksToClear}
+use Rattle.sheet.specs.Observations.{asksToClear}
 use Rattle.sheet.proofs.SettingTotals.{set-diameter-totals, set-rate-totals, set-volume-totals, set-direction-totals}
 use Rattle.sheet.proofs.SettingTotals.{set-phase-totals, set-function-totals, run-totals, run-from-totals, stop-totals}
 

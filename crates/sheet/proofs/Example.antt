@@ -1,7 +1,8 @@
--- A run from power-up, computed from the definitions: the claims speak of something.   (01, Marked figures: the bench program)
+-- Runs from power-up of this model, computed from the definitions: the claims speak of something.   (01, Marked figures: the bench program)
 -- Assumes nothing.
-use Prim.Native.Nat.{ℕ, zero, suc}
-use mathlib.Core.Path.{refl}
+use Prim.Native.Nat.{ℕ}
+use mathlib.Core.Path.{_≡_, refl}
+use mathlib.Core.Bool.{true, false}
 use mathlib.Core.List.{List, [], _∷_, _++_}
 use lib.ListN.{replicate}
 use Rattle.base.specs.Rows.{Gives}
@@ -9,8 +10,7 @@ use Rattle.base.specs.Text.{text}
 use Rattle.program.specs.declared.phases.Direction.the-variants.{Infuse}
 use Rattle.pump.specs.Holder.{modelPhases, freshPump}
 use Rattle.statement.specs.Histories.{Call, byteIn, tickIn}
-use Rattle.events.specs.Events.{trace}
-use Rattle.sheet.specs.Totals.{clears, volume, sinceCleared}
+use Rattle.sheet.specs.Observations.{trace, clears, volume, sinceCleared, begins, ends, stepsOf, seen, doses}
 use Rattle.sheet.proofs.Opening.{opened}
 
 -- ---- what is sent: a text and its return, with room for an answer; and ticks
@@ -19,8 +19,7 @@ sent [] = byteIn 13 (replicate 24 0) ∷ []
 sent (b ∷ s) = byteIn b (replicate 24 0) ∷ sent s
 
 abbrev ticked : ℕ → List Call
-ticked zero = []
-ticked (suc n) = tickIn ∷ ticked n
+ticked n = replicate n tickIn
 
 -- ---- the document's example: 50 steps of 19,635,000 fl in 19 ticks, and one tick more to stop
 abbrev dispensed : ℕ → List Call
@@ -47,3 +46,27 @@ rows =
 pub as-the-document : Gives infused rows
 unfolding opened clears volume sinceCleared
 as-the-document = refl
+
+-- ---- three visits to a RAT phase at 10 mm, where a step has 0.019635 microlitres: one of 1.000 microlitres runs to its end, one of 0.019
+-- ends at entry, and one is cut: the last setting is accepted while paused, which stops the pump
+abbrev visited : List Call
+visited =
+    dispensed 20
+    ++ sent (text "VOL0.019")
+    ++ sent (text "RUN")
+    ++ ticked 2
+    ++ sent (text "VOL1.000")
+    ++ sent (text "RUN")
+    ++ ticked 5
+    ++ sent (text "STP")
+    ++ sent (text "VOL2.000")
+
+-- the newest first
+pub three-visits :
+    doses (trace (freshPump modelPhases) visited)
+    ≡ (record { volume = 1_000_000_000; v = 19_635_000; steps = 11; ended = false }
+    ∷ record { volume = 19_000_000; v = 19_635_000; steps = 0; ended = true }
+    ∷ record { volume = 1_000_000_000; v = 19_635_000; steps = 50; ended = true }
+    ∷ [])
+unfolding opened begins ends stepsOf seen doses
+three-visits = refl

@@ -1,4 +1,5 @@
--- That the observer's sheet and the stored totals agree, and what holds of every event.
+-- Condition 3: the observer's sheet and the stored totals agree, the visits give what fits, and what holds of every event.
+pub mod Following
 pub mod Choosing
 pub mod EnteringTotals
 pub mod EdgeTotals
@@ -12,5 +13,15 @@ pub mod Giving
 pub mod Limits
 pub mod Ruling
 pub mod StepsRuled
+pub mod Catalogue
+pub mod Notebook
+pub mod Settling
+pub mod Bytes
+pub mod Pins
+pub mod Moves
+pub mod Entered
+pub mod Worked
+pub mod Doses
+pub mod Theorem
 pub mod Opening
 pub mod Example

@@ -26,7 +26,7 @@ use Rattle.engine.specs.Sound as sound
 use Rattle.pump.specs.Holder as holder
 use Rattle.pump.specs.Lines as whole
 use Rattle.pump.specs.Calls as calls
-use Rattle.events.specs.Events as events
+use Rattle.sheet.specs.Observations as observations
 
 unfoldable pub opened : ℕ
 unfolding read.isDigit read.isPoint read.plain read.digits read.points read.after read.numberFrom read.wellFormed read.thousandths
@@ -41,9 +41,9 @@ unfolding read.isDigit read.isPoint read.plain read.digits read.points read.afte
     lines.allStanding lines.soundLine lines.addressIn lines.commandIn answers.bodyOf answers.answerOf answers.lengthIn answers.bufferAfter
     entering.begunVisit entering.enterRate working.doseOf working.afterVisit working.afterDose working.given working.giveSteps
     working.workVisit ticks.enter ticks.entered ticks.tickOf queries.statusOf settings.settled settings.setDiameter settings.setFlow
-    settings.setStored settings.setRate settings.setVolume control.runOn control.clearTotal sound.soundRun sound.soundRanges
+    settings.setStored settings.setRate settings.setVolume control.runOn control.stopNow control.clearTotal sound.soundRun sound.soundRanges
     sound.soundCore
     holder.phaseAt holder.withPhase holder.freshPump holder.inHand holder.soundPhases holder.soundPump whole.resetPump whole.done
     whole.obeyed whole.ours whole.afterLine calls.tickCall calls.received calls.receivedBuffer calls.byteReport calls.byteBuffer
-    events.trace
+    observations.trace observations.noted
 opened = 0

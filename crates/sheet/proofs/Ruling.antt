@@ -31,9 +31,8 @@ use Rattle.pump.specs.declared.holder.Pump.{Pump}
 use Rattle.statement.specs.Facts.{hereOf}
 use Rattle.statement.specs.Histories.{Call, byteIn, pinAt, tickIn, reportAfter}
 use Rattle.statement.specs.Outcomes.{Outcome}
-use Rattle.events.specs.Events.{eventOf}
-use Rattle.sheet.specs.Rules.{due, upTo, unlessFull, ruledRate, ruledWork, ruledMode, ruled}
-use Rattle.sheet.specs.Totals.{sameWay, ofWay, stepsTold}
+use Rattle.sheet.specs.Observations.{eventOf, due, upTo, unlessFull, ruledRate, ruledWork, ruledMode, ruled, sameWay, ofWay}
+use Rattle.sheet.specs.Observations.{stepsTold}
 use Rattle.sheet.proofs.Giving.{NoStep, byte-none, pin-none, tick-told}
 
 -- what a tick reports in direction d, and what is ruled there

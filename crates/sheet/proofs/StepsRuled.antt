@@ -15,13 +15,11 @@ use Rattle.pump.specs.declared.holder.Pump.{Pump}
 use Rattle.statement.specs.Histories.{Call, reportAfter, after, Model, Whole}
 use Rattle.statement.proofs.Always.{call-whole, sound-after}
 use Rattle.statement.proofs.Wholes.{fresh-whole}
-use Rattle.events.specs.Events.{eventOf, trace}
-use Rattle.events.proofs.Following.{follows}
-use Rattle.sheet.specs.Rules.{ruled, addedUp, ruledVolume}
-use Rattle.sheet.specs.Totals.{clears, stepsTold, volume, sinceCleared}
+use Rattle.sheet.specs.Observations.{eventOf, trace, ruled, addedUp, ruledVolume, clears, stepsTold, volume, sinceCleared}
+use Rattle.sheet.proofs.Following.{follows}
 use Rattle.sheet.proofs.Booking.{call-books}
 use Rattle.sheet.proofs.Ruling.{call-ruled}
-use Rattle.sheet.proofs.TotalsRight.{noted-fold, totals-right}
+use Rattle.sheet.proofs.TotalsRight.{totals-right}
 
 pub steps-ruled :
     (n : ℕ)
@@ -60,6 +58,4 @@ pub totals-ruled :
     → (d : Direction) (cs : List Call)
     → totalOf (after (freshPump n) cs .core .totals) d ≡ ruledVolume d (trace (freshPump n) cs)
 unfolding ruledVolume
-totals-ruled n m d cs =
-    follows (addedUp d) (Agree d) (keeps d) (freshPump n) 0 cs (starts n m d) .total
-    ∙ noted-fold (addedUp d) 0 (trace (freshPump n) cs)
+totals-ruled n m d cs = follows (addedUp d) (Agree d) (keeps d) (freshPump n) 0 cs (starts n m d) .total

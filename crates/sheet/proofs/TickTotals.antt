@@ -28,7 +28,7 @@ use Rattle.engine.specs.declared.state.Mode.the-variants.{Stopped, Paused, Runn
 use Rattle.engine.specs.declared.state.Moved.{Moved}
 use Rattle.engine.specs.declared.state.Work.{Work}
 use Rattle.engine.specs.declared.state.Work.the-variants.{Entering, Visiting, Pausing, Waiting}
-use Rattle.sheet.specs.Totals.{ofWay}
+use Rattle.sheet.specs.Observations.{ofWay}
 use Rattle.sheet.proofs.Choosing.{either}
 use Rattle.sheet.proofs.EnteringTotals.{enter-totals}
 

@@ -4,7 +4,7 @@
 use Prim.Native.Nat.{ℕ, _+_}
 use mathlib.Core.Path.{_≡_, refl, ap, _∙_}
 use mathlib.Core.Bool.{Bool, true, false}
-use mathlib.Core.List.{List, [], _∷_, foldl}
+use mathlib.Core.List.{List, [], _∷_}
 use Rattle.base.specs.If.{if_then_else_}
 use Rattle.program.specs.declared.phases.Direction.{Direction}
 use Rattle.program.specs.declared.phases.Direction.the-variants.{Infuse, Withdraw}
@@ -12,16 +12,9 @@ use Rattle.dispense.specs.Totals.{totalOf}
 use Rattle.pump.specs.Holder.{freshPump}
 use Rattle.pump.specs.declared.holder.Pump.{Pump}
 use Rattle.statement.specs.Histories.{Call, reportAfter, after}
-use Rattle.events.specs.Events.{Event, eventOf, trace}
-use Rattle.events.proofs.Following.{noted, follows}
-use Rattle.sheet.specs.Totals.{clears, volumeOf, volume, since, sinceCleared}
+use Rattle.sheet.specs.Observations.{Event, eventOf, trace, clears, volumeOf, volume, since, sinceCleared}
+use Rattle.sheet.proofs.Following.{follows}
 use Rattle.sheet.proofs.Booking.{call-books}
-
--- the notebook of the one induction is a fold
-pub noted-fold : {M : Type 0} (note : M → Event → M) (m : M) (es : List Event) → noted note m es ≡ foldl note m es
-unfolding noted
-noted-fold note m [] = refl
-noted-fold note m (e ∷ es) = noted-fold note (note m e) es
 
 -- the total, and the volume of the events since it was cleared
 abbrev Agree : Direction → Pump → List Event → Type 0
@@ -48,6 +41,4 @@ pub totals-right :
     (n : ℕ) (d : Direction) (cs : List Call)
     → totalOf (after (freshPump n) cs .core .totals) d ≡ volume d (sinceCleared d (trace (freshPump n) cs))
 unfolding sinceCleared
-totals-right n d cs =
-    follows (since d) (Agree d) (keeps d) (freshPump n) [] cs (starts n d)
-    ∙ ap (volume d) (noted-fold (since d) [] (trace (freshPump n) cs))
+totals-right n d cs = follows (since d) (Agree d) (keeps d) (freshPump n) [] cs (starts n d)

@@ -1,4 +1,3 @@
--- What an observer of the calls writes down, and what it is held to.
-pub mod Totals
-pub mod Rules
-pub mod Limits
+-- What an observer of the calls writes down, and condition 3, which is said of it.
+pub mod Observations
+pub mod Condition

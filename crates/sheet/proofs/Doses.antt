@@ -22,15 +22,14 @@ use Rattle.statement.specs.Facts.{underWay}
 use Rattle.statement.specs.Histories.{Call, byteIn, pinAt, tickIn, reportAfter, after, Model, Whole}
 use Rattle.statement.proofs.Always.{call-whole}
 use Rattle.statement.proofs.Wholes.{fresh-whole}
-use Rattle.events.specs.Events.{Event, eventOf, trace, Every}
-use Rattle.events.proofs.Following.{noted, follows}
-use Rattle.doses.specs.Visits.{isTick, begins, ends, stepsOf, Dose, seen, doses, Fits, Newest, stepsIn, stepsGiven}
-use Rattle.doses.specs.Visits.{InVisit, Present}
-use Rattle.doses.proofs.Catalogue.{Told, rests, told-in-visit}
-use Rattle.doses.proofs.Notebook.{Agree, agree-fresh, agree-present, keeps, sum-seen}
-use Rattle.doses.proofs.Bytes.{Still, byte-still}
-use Rattle.doses.proofs.Pins.{pin-still}
-use Rattle.doses.proofs.Worked.{told-tick}
+use Rattle.sheet.specs.Observations.{Event, eventOf, trace, Every, noted, isTick, begins, ends, stepsOf, Dose, seen, doses, Fits}
+use Rattle.sheet.specs.Observations.{Newest, stepsIn, stepsGiven, InVisit, Present}
+use Rattle.sheet.proofs.Following.{follows, every-event}
+use Rattle.sheet.proofs.Catalogue.{Told, rests, told-in-visit}
+use Rattle.sheet.proofs.Notebook.{Agree, agree-fresh, agree-present, keeps, sum-seen}
+use Rattle.sheet.proofs.Bytes.{Still, byte-still}
+use Rattle.sheet.proofs.Pins.{pin-still}
+use Rattle.sheet.proofs.Worked.{told-tick}
 
 -- ---- what one call does: only a tick has to do with a visit
 abbrev event : Pump → Call → Report → List ℕ → Event
@@ -87,13 +86,8 @@ unfolding doses
 doses-whole n m cs = sums (freshPump n) [] cs (start n m) ∙ omega (arith, none-in)
 
 -- ---- every step is in a visit
-visited : (p : Pump) (cs : List Call) → Whole p → Every InVisit (trace p cs)
-unfolding trace
-visited p [] w = tt
-visited p (c ∷ cs) w = (told-in-visit (eventOf p c) (told p c w), visited (reportAfter p c .pump) cs (call-whole p c w))
-
 pub steps-in : (n : ℕ) → Model n → (cs : List Call) → Every InVisit (trace (freshPump n) cs)
-steps-in n m cs = visited (freshPump n) cs (fresh-whole n m)
+steps-in n m cs = every-event InVisit (λ p c w. told-in-visit (eventOf p c) (told p c w)) (freshPump n) cs (fresh-whole n m)
 
 -- and in the one that is written down
 pub doses-present :

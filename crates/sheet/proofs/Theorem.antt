@@ -8,12 +8,12 @@ use native.Mathlib.Omega.{arith}
 use Rattle.program.specs.declared.phases.Direction.the-variants.{Infuse, Withdraw}
 use Rattle.pump.specs.Holder.{modelPhases, freshPump}
 use Rattle.statement.specs.Histories.{Call, after, Model}
-use Rattle.events.specs.Events.{trace}
+use Rattle.sheet.specs.Observations.{trace}
+use Rattle.sheet.specs.Condition.{Condition3}
 use Rattle.sheet.proofs.Limits.{four-steps, three-loops}
 use Rattle.sheet.proofs.StepsRuled.{totals-ruled}
 use Rattle.sheet.proofs.TotalsRight.{totals-right}
-use Rattle.doses.proofs.Theorems.{doses-fit, doses-whole, steps-in}
-use Rattle.condition.specs.Condition.{Condition3}
+use Rattle.sheet.proofs.Doses.{doses-fit, doses-whole, steps-in, doses-present}
 
 pub condition3 : (n : ℕ) → Model n → (cs : List Call) → Condition3 (after (freshPump n) cs) (trace (freshPump n) cs)
 condition3 n m cs =
@@ -25,6 +25,7 @@ condition3 n m cs =
       visits-fit = doses-fit n m cs;
       in-visits = steps-in n m cs;
       all-counted = doses-whole n m cs;
+      under-way = doses-present n m cs;
       three-loops = three-loops n m cs;
       four-steps = four-steps n m cs;
     }

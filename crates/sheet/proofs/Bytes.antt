@@ -34,9 +34,9 @@ use Rattle.statement.specs.Facts.{underWay}
 use Rattle.statement.specs.Histories.{Whole}
 use Rattle.statement.proofs.Placing.{placed-at}
 use Rattle.statement.proofs.Soundness.{sound-facts}
-use Rattle.doses.proofs.Catalogue.{Stays}
-use Rattle.doses.proofs.Settling as settling
-use Rattle.doses.proofs.Settling.{Does, Calm, does}
+use Rattle.sheet.proofs.Catalogue.{Stays}
+use Rattle.sheet.proofs.Settling as settling
+use Rattle.sheet.proofs.Settling.{Does, Calm, does}
 
 -- ---- ways to stay
 pub stays-same : (p : Pump) → Stays p p

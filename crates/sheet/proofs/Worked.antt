@@ -38,12 +38,12 @@ use Rattle.pump.specs.declared.holder.Pump.{Pump}
 use Rattle.statement.specs.Facts.{underWay, hereOf, VisitFacts}
 use Rattle.statement.specs.Histories.{Whole}
 use Rattle.statement.proofs.Soundness.{sound-facts}
-use Rattle.doses.specs.Visits.{begins, works, stepsOf}
-use Rattle.doses.proofs.Catalogue.{sizeOf, aimOf, Told, rests, gives, finishes}
-use Rattle.doses.proofs.Bytes.{stays-same, stays-none}
-use Rattle.doses.proofs.Entered.{told-entered}
-use Rattle.doses.proofs.Moves.{moved, not-running, entered-before, stopped-behind, visit-behind, over, worked, idles}
-use Rattle.doses.proofs.Moves.{or-first, size-volume, aim-size}
+use Rattle.sheet.specs.Observations.{begins, works, stepsOf}
+use Rattle.sheet.proofs.Catalogue.{sizeOf, aimOf, Told, rests, gives, finishes}
+use Rattle.sheet.proofs.Bytes.{stays-same, stays-none}
+use Rattle.sheet.proofs.Entered.{told-entered}
+use Rattle.sheet.proofs.Moves.{moved, not-running, entered-before, stopped-behind, visit-behind, over, worked, idles}
+use Rattle.sheet.proofs.Moves.{or-first, size-volume, aim-size}
 
 -- ---- a visit with a target: its steps are what is left at most, and are counted
 module _ (v : Visit) (hour limit : ℕ) (some : eqb (v .target) 0 ≡ false) where

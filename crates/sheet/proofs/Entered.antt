@@ -32,9 +32,9 @@ use Rattle.engine.specs.declared.state.Trap.the-variants.{Armed}
 use Rattle.engine.specs.declared.state.Work.the-variants.{Entering, Visiting, Pausing, Waiting}
 use Rattle.pump.specs.declared.holder.Pump.{Pump}
 use Rattle.statement.specs.Facts.{underWay, hereOf}
-use Rattle.doses.specs.Visits.{begins, stepsOf}
-use Rattle.doses.proofs.Catalogue.{aimOf, Told, opens, passes, visit-is}
-use Rattle.doses.proofs.Moves.{moved, no-rate-phase, alarm-behind, begun, visit-behind, over, idles, or-last, size-above}
+use Rattle.sheet.specs.Observations.{begins, stepsOf}
+use Rattle.sheet.proofs.Catalogue.{aimOf, Told, opens, passes, visit-is}
+use Rattle.sheet.proofs.Moves.{moved, no-rate-phase, alarm-behind, begun, visit-behind, over, idles, or-last, size-above}
 
 -- ---- phases that do not pump
 abbrev Free : Core → Type 0

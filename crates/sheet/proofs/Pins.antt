@@ -25,8 +25,8 @@ use Rattle.pump.specs.Reports.{refused, reported}
 use Rattle.pump.specs.declared.holder.Pump.{Pump}
 use Rattle.pump.specs.declared.reports.Refusal.{Refusal}
 use Rattle.pump.specs.declared.reports.Refusal.the-variants.{NoPin, NoLevel, Unsound}
-use Rattle.doses.proofs.Catalogue.{Stays}
-use Rattle.doses.proofs.Bytes.{stays-same, Turns, keeps, drops, stays-core, Still}
+use Rattle.sheet.proofs.Catalogue.{Stays}
+use Rattle.sheet.proofs.Bytes.{stays-same, Turns, keeps, drops, stays-core, Still}
 
 -- ---- the core: the level kept, the foot switch, the trap
 turns-pins : (s t : Core) (x : Pins) → Turns (withPins s x) t → Turns s t

@@ -21,10 +21,9 @@ use Rattle.pump.specs.declared.reports.Refusal.the-variants.{Accepted}
 use Rattle.statement.specs.Facts.{underWay, hereOf}
 use Rattle.statement.specs.Histories.{Whole, tickIn}
 use Rattle.statement.proofs.Soundness.{sound-facts}
-use Rattle.events.specs.Events.{Event}
-use Rattle.doses.specs.Visits.{begins, ends, works, stepsOf}
-use Rattle.doses.proofs.Catalogue.{sizeOf, aimOf, Told, rests}
-use Rattle.doses.proofs.Bytes.{stays-none}
+use Rattle.sheet.specs.Observations.{Event, begins, ends, works, stepsOf}
+use Rattle.sheet.proofs.Catalogue.{sizeOf, aimOf, Told, rests}
+use Rattle.sheet.proofs.Bytes.{stays-none}
 
 -- ---- tests
 not-first : (t u : Bool) → t ≡ false → (t && u) ≡ false

@@ -1,2 +1,0 @@
--- Condition 3.
-pub mod Condition

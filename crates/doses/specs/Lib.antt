@@ -1,2 +1,0 @@
--- The visits of a history.
-pub mod Visits

@@ -1,2 +1,0 @@
--- What an observer of the calls sees.
-pub mod Events

@@ -1,1 +1,0 @@
-// No code: what an observer of the calls writes down, for the theorems on every history.

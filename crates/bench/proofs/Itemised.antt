@@ -9,7 +9,7 @@ use lib.Dec.{eqb}
 use lib.ListN.{length}
 use Rattle.base.specs.If.{if_then_else_}
 use Rattle.base.specs.Text.{letter}
-use Rattle.pump.specs.Holder.{freshPump, soundPump}
+use Rattle.pump.specs.Holder.{modelPhases, freshPump, soundPump}
 use Rattle.pump.specs.declared.holder.Pump.{Pump}
 use Rattle.bench.specs.Items.{Item, say, level, ticks, noItem, ticksItem, levelItem, tickItem, edgeItem, itemOf}
 use Rattle.bench.specs.Items.{valueOf, upToBlank, pastBlank}
@@ -155,7 +155,7 @@ bench-itemised p s = onward-bench (between p) s ∙ lines-itemised (length s) p 
 -- ---- the whole output for every input is that of its lines
 pub itemised : (s : List ℕ) → script s ≡ scriptOf s
 unfolding script scriptOf closing
-itemised s = ap (λ (o : Outcome). o .lines) (bench-itemised freshPump s)
+itemised s = ap (λ (o : Outcome). o .lines) (bench-itemised (freshPump modelPhases) s)
 
 -- ---- and it comes in time: at each newline all is printed that the lines up to it ask for, and the pump is as they leave it
 newline-starts : (w : Bench) (s : List ℕ) → played w (s ++ (10 ∷ [])) .place ≡ Start

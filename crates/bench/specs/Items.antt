@@ -9,7 +9,7 @@ use Rattle.base.specs.Text.{letter}
 use Rattle.decimal.specs.Read.{isDigit}
 use Rattle.many.specs.Ticking.{ticked}
 use Rattle.pump.specs.Calls.{pinCall}
-use Rattle.pump.specs.Holder.{freshPump, soundPump}
+use Rattle.pump.specs.Holder.{modelPhases, freshPump, soundPump}
 use Rattle.pump.specs.declared.holder.Pump.{Pump}
 use Rattle.bench.specs.Places.{carriageReturn, newline}
 use Rattle.bench.specs.Printing.{complaintLine, countsLine}
@@ -134,4 +134,4 @@ pumpBehind p (line ∷ lines) = pumpBehind (pumpAfter p (itemOf line)) lines
 
 -- ---- all that the program prints for an input
 unfoldable pub scriptOf : List ℕ → List ℕ
-scriptOf s = allLines freshPump (linesOf s)
+scriptOf s = allLines (freshPump modelPhases) (linesOf s)

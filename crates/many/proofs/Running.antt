@@ -9,7 +9,6 @@ use Rattle.engine.specs.Sound.{Ready}
 use Rattle.engine.specs.Ticks.{tickOf}
 use Rattle.engine.specs.declared.state.Core.{Core}
 use Rattle.engine.specs.declared.state.Moved.{Moved}
-use Rattle.pump.specs.Calls as calls
 use Rattle.pump.specs.Calls.{tickCall}
 use Rattle.pump.specs.Holder.{phaseCount, phaseAt, withCore, soundPump}
 use Rattle.pump.specs.Reports.{refused, movedBy}
@@ -17,7 +16,7 @@ use Rattle.pump.specs.declared.holder.Pump.{Pump}
 use Rattle.pump.specs.declared.reports.Refusal.the-variants.{Accepted, Unsound}
 use Rattle.pump.specs.declared.reports.Report.{Report}
 use Rattle.pump.proofs.Phases.{pump-ready}
-use Rattle.statement.proofs.Wholes.{tick-whole}
+use Rattle.statement.proofs.Wholes.{sound-tick, tick-whole}
 use Rattle.many.specs.Ticking.{withTick, ticked}
 use Rattle.many.specs.declared.Ticked.{Ticked}
 
@@ -31,10 +30,6 @@ pub record Ran (p : Pump) (core : Core) (infused withdrawn i : ℕ) : Type 0 whe
 pub ran-none : (p : Pump) → soundPump p ≡ true → Ran p (p .core) 0 0 0
 unfolding ticked
 ran-none p sound = record { sound = sound; same = refl; infused-few = omega arith; withdrawn-few = omega arith }
-
-sound-tick : (p : Pump) → soundPump p ≡ true → tickCall p ≡ calls.ticked p
-unfolding tickCall
-sound-tick p e = rw e refl
 
 module _ {count : ℕ} (p : Pump) (full : phaseCount p ≡ count) (few : count ≤ 99) (core : Core) (a b i : ℕ)
     (ran : Ran p core a b i) (here : Phase) (h : here ≡ phaseAt (p .phases) (core .run .place .current)) where

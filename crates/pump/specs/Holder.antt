@@ -21,7 +21,7 @@ use Rattle.pump.specs.declared.holder.Pump.{Pump}
 abbrev pub phaseCount : Pump → ℕ
 phaseCount p = length (p .phases)
 
--- and how many this model has, as the type of its state   (01, Numbers: "phases 1 to 41")
+-- and how many this model has, by the type of its state   (01, Numbers: "phases 1 to 41")
 abbrev pub modelPhases : ℕ
 modelPhases = 41
 

@@ -11,7 +11,8 @@ use Rattle.engine.specs.declared.state.Work.{Work}
 use Rattle.engine.specs.declared.state.Work.the-variants.{Entering, Visiting, Pausing, Waiting}
 use Rattle.pump.specs.declared.holder.Pump.{Pump}
 use Rattle.statement.specs.Facts.{underWay, hereOf}
-use Rattle.sheet.specs.Observations.{Event, behindIt, begins, ends, works, stepsOf, InVisit}
+use Rattle.sheet.specs.Observations.{Event, behindIt, begins, ends, works, stepsOf}
+use Rattle.sheet.specs.Condition.{InVisit}
 
 -- the volume of the phase in place, in femtolitres, and how many steps of it fit
 abbrev pub sizeOf : Pump → ℕ

@@ -6,24 +6,21 @@
 -- Assumes nothing.
 use Prim.Native.Nat.{ℕ, _+_}
 use mathlib.Core.Path.{_≡_, refl, sym, ap, subst, _∙_}
-use mathlib.Core.Bool.{Bool, true, false}
+use mathlib.Core.Bool.{true, false}
 use mathlib.Core.List.{List, [], _∷_}
 use native.Mathlib.Nat.{add-zero, add-assoc}
 use native.Mathlib.Omega.{arith}
-use Rattle.base.specs.If.{if_then_else_}
 use Rattle.engine.specs.Settings.{isVisiting}
-use Rattle.pump.specs.Calls.{ticked, tickCall}
 use Rattle.pump.specs.Holder.{freshPump}
-use Rattle.pump.specs.Reports.{refused}
 use Rattle.pump.specs.declared.holder.Pump.{Pump}
-use Rattle.pump.specs.declared.reports.Refusal.the-variants.{Unsound}
 use Rattle.pump.specs.declared.reports.Report.{Report}
 use Rattle.statement.specs.Facts.{underWay}
 use Rattle.statement.specs.Histories.{Call, byteIn, pinAt, tickIn, reportAfter, after, Model, Whole}
 use Rattle.statement.proofs.Always.{call-whole}
-use Rattle.statement.proofs.Wholes.{fresh-whole}
-use Rattle.sheet.specs.Observations.{Event, eventOf, trace, Every, noted, isTick, begins, ends, stepsOf, Dose, seen, doses, Fits}
-use Rattle.sheet.specs.Observations.{Newest, stepsIn, stepsGiven, InVisit, Present}
+use Rattle.statement.proofs.Wholes.{fresh-whole, sound-tick}
+use Rattle.sheet.specs.Observations.{Event, eventOf, trace, Every, noted, isTick, begins, ends, stepsOf, Dose, seen, doses}
+use Rattle.sheet.specs.Observations.{stepsIn, stepsGiven}
+use Rattle.sheet.specs.Condition.{Fits, Newest, InVisit, Present}
 use Rattle.sheet.proofs.Following.{follows, every-event}
 use Rattle.sheet.proofs.Catalogue.{Told, rests, told-in-visit}
 use Rattle.sheet.proofs.Notebook.{Agree, agree-fresh, agree-present, keeps, sum-seen}
@@ -39,14 +36,10 @@ told-still : (p : Pump) (c : Call) (r : Report) (b : List ℕ) → isTick c ≡ 
 unfolding begins ends stepsOf
 told-still p c r b h s = rests (rw h refl) (rw h refl) (s .none) (s .stays)
 
-tick-is : (p : Pump) → Whole p → tickCall p ≡ ticked p
-unfolding tickCall
-tick-is p w = ap (λ (t : Bool). if t then ticked p else refused p Unsound) (w .sound)
-
 told : (p : Pump) (c : Call) → Whole p → Told (eventOf p c)
 told p (byteIn b buffer) w = told-still p (byteIn b buffer) _ _ refl (byte-still p w b buffer)
 told p (pinAt pin level) w = told-still p (pinAt pin level) _ _ refl (pin-still p pin level)
-told p tickIn w = subst (λ (r : Report). Told (event p tickIn r [])) (sym (tick-is p w)) (told-tick p w)
+told p tickIn w = subst (λ (r : Report). Told (event p tickIn r [])) (sym (sound-tick p (w .sound))) (told-tick p w)
 
 -- ---- the notebook and the state, call by call
 call-keeps : (p : Pump) (ws : List Dose) (c : Call) → Agree p ws → Agree (reportAfter p c .pump) (seen ws (eventOf p c))

@@ -28,7 +28,8 @@ use Rattle.statement.specs.Outcomes as out
 use Rattle.statement.specs.Outcomes.{Outcome, outcomeOf, Still, Ticked, Told, Meets}
 use Rattle.statement.proofs.Doing.{does}
 use Rattle.statement.proofs.Outcomes.{call-meets}
-use Rattle.sheet.specs.Observations.{eventOf, FourSteps}
+use Rattle.sheet.specs.Observations.{eventOf}
+use Rattle.sheet.specs.Condition.{FourSteps}
 use Rattle.sheet.proofs.TickTotals.{Moves, gives-none, gives-steps, tick-moves}
 
 -- ---- no step in either direction

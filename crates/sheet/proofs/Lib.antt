@@ -1,5 +1,8 @@
 -- Condition 3: the observer's sheet and the stored totals agree, the visits give what fits, and what holds of every event.
 pub mod Following
+pub mod Joining
+pub mod Stops
+pub mod Pauses
 pub mod Choosing
 pub mod EnteringTotals
 pub mod EdgeTotals

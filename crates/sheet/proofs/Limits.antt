@@ -9,7 +9,8 @@ use Rattle.statement.specs.Histories.{Call, after, Model}
 use Rattle.statement.proofs.Always.{sound-after}
 use Rattle.statement.proofs.Soundness.{sound-facts}
 use Rattle.statement.proofs.Wholes.{fresh-whole}
-use Rattle.sheet.specs.Observations.{trace, Every, FourSteps, ThreeLoops}
+use Rattle.sheet.specs.Observations.{trace, Every}
+use Rattle.sheet.specs.Condition.{FourSteps, ThreeLoops}
 use Rattle.sheet.proofs.Following.{every-event}
 use Rattle.sheet.proofs.Giving.{call-few}
 

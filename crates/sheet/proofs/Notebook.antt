@@ -19,8 +19,9 @@ use Rattle.pump.specs.declared.holder.Pump.{Pump}
 use Rattle.statement.specs.Facts.{underWay, hereOf}
 use Rattle.statement.specs.Histories.{Whole}
 use Rattle.statement.proofs.Soundness.{sound-facts}
-use Rattle.sheet.specs.Observations.{Event, Every, behindIt, begins, ends, stepsOf, Dose, newDose, counted, seen, Fits, Newest}
-use Rattle.sheet.specs.Observations.{stepsIn, Present}
+use Rattle.sheet.specs.Observations.{Event, Every, behindIt, begins, ends, stepsOf, Dose, newDose, counted, seen}
+use Rattle.sheet.specs.Observations.{stepsIn}
+use Rattle.sheet.specs.Condition.{Fits, Newest, Present}
 use Rattle.sheet.proofs.Catalogue.{sizeOf, aimOf, Alike, Told, rests, opens, passes, gives, finishes, visit-is}
 
 -- ---- the notebook and the state

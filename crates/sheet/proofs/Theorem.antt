@@ -4,14 +4,14 @@
 -- Assumes nothing.
 use Prim.Native.Nat.{ℕ}
 use mathlib.Core.List.{List}
-use native.Mathlib.Omega.{arith}
 use Rattle.program.specs.declared.phases.Direction.the-variants.{Infuse, Withdraw}
 use Rattle.pump.specs.Holder.{modelPhases, freshPump}
 use Rattle.statement.specs.Histories.{Call, after, Model}
+use Rattle.statement.proofs.Always.{model}
 use Rattle.sheet.specs.Observations.{trace}
 use Rattle.sheet.specs.Condition.{Condition3}
 use Rattle.sheet.proofs.Limits.{four-steps, three-loops}
-use Rattle.sheet.proofs.StepsRuled.{totals-ruled}
+use Rattle.sheet.proofs.StepsRuled.{reports-ruled, totals-ruled}
 use Rattle.sheet.proofs.TotalsRight.{totals-right}
 use Rattle.sheet.proofs.Doses.{doses-fit, doses-whole, steps-in, doses-present}
 
@@ -20,6 +20,8 @@ condition3 n m cs =
     record {
       infused = totals-right n Infuse cs;
       withdrawn = totals-right n Withdraw cs;
+      steps-infused = reports-ruled n m Infuse cs;
+      steps-withdrawn = reports-ruled n m Withdraw cs;
       infused-ruled = totals-ruled n m Infuse cs;
       withdrawn-ruled = totals-ruled n m Withdraw cs;
       visits-fit = doses-fit n m cs;
@@ -29,9 +31,6 @@ condition3 n m cs =
       three-loops = three-loops n m cs;
       four-steps = four-steps n m cs;
     }
-
-model : Model modelPhases
-model = record { some = omega arith; few = omega arith }
 
 pub condition3-here : (cs : List Call) → Condition3 (after (freshPump modelPhases) cs) (trace (freshPump modelPhases) cs)
 condition3-here cs = condition3 modelPhases model cs

@@ -1,8 +1,7 @@
 -- All that an observer of the calls writes down: what condition 3 (specs/Condition.antt) is said with. Each number is made from what was
--- called, answered and reported and from the rules; no stored total is looked at. In five parts:
---     the event and the trace; clearing, and the volume of steps; visits; the steps that the rules give; the limits
-use Prim.Native.Nat.{ℕ, _+_, _-_, _*_, _/_, _≤_, _<_, min}
-use mathlib.Core.Path.{_≡_}
+-- called, answered and reported and from the rules; no stored total is looked at. In four parts:
+--     the event and the trace; clearing, and the volume of steps; visits; the steps that the rules give
+use Prim.Native.Nat.{ℕ, _+_, _-_, _*_, _/_, min}
 use mathlib.Core.Bool.{Bool, true, false, not, _&&_, _||_}
 use mathlib.Core.List.{List, [], _∷_}
 use lib.Dec.{leb, eqb}
@@ -15,7 +14,6 @@ use Rattle.program.specs.declared.phases.Direction.the-variants.{Infuse, Withdr
 use Rattle.line.specs.Lines.{addressIn, commandIn}
 use Rattle.line.specs.declared.commands.Command.{Command}
 use Rattle.line.specs.declared.commands.Command.the-variants as c
-use Rattle.loops.specs.Loops.{slot}
 use Rattle.dispense.specs.declared.rates.Rate.{Rate}
 use Rattle.dispense.specs.declared.rates.Rate.the-variants.{NoRate, Current}
 use Rattle.dispense.specs.declared.visits.Visit.{Visit}
@@ -146,8 +144,8 @@ isTick (byteIn b buffer) = false
 isTick (pinAt pin level) = false
 isTick tickIn = true
 
-abbrev pub ticks : Event → Bool
-ticks e = isTick (e .call) && isAccepted (e .report .refusal)
+abbrev pub tickTaken : Event → Bool
+tickTaken e = isTick (e .call) && isAccepted (e .report .refusal)
 
 -- the pump behind the event
 abbrev pub behindIt : Event → Pump
@@ -157,7 +155,7 @@ behindIt e = e .report .pump
 -- rate that is not usable is alarm E, which stops it, and begins no visit   (01, Ticks and phases: "enter the current phase")
 unfoldable pub begins : Event → Bool
 begins e =
-    ticks e
+    tickTaken e
     && (operating (e .before .core)
     && (isEntering (underWay (e .before)) && (pumps (hereOf (e .before) .function) && operating (behindIt e .core))))
 
@@ -165,13 +163,13 @@ begins e =
 -- (01, Ticks and phases: "Reaching the target ends the visit", "a volume above 0 with target 0 ends at entry")
 unfoldable pub ends : Event → Bool
 ends e =
-    ticks e
+    tickTaken e
     && (operating (behindIt e .core)
     && (not (isVisiting (underWay (behindIt e))) && (isVisiting (underWay (e .before)) || begins e)))
 
 -- the event works a visit: a tick of a running pump with one under way   (01, Ticks and phases: "or work the entered one")
 unfoldable pub works : Event → Bool
-works e = ticks e && (operating (e .before .core) && isVisiting (underWay (e .before)))
+works e = tickTaken e && (operating (e .before .core) && isVisiting (underWay (e .before)))
 
 -- the steps that the event's report gives, in either direction   (01, Calls)
 unfoldable pub stepsOf : Event → ℕ
@@ -210,12 +208,6 @@ seen ws e = counted (stepsOf e) (ends e) (opened ws e)
 unfoldable pub doses : List Event → List Dose
 doses es = noted seen [] es
 
--- no more steps than fit in the visit's volume; and where it ended of itself just so many, one more would not fit
--- (01, Ticks and phases: "Step target is volume / v rounded down", "give the due steps up to the target")
-pub record Fits (w : Dose) : Type 0 where
-  pub at-most : 0 < w .volume → w .steps * w .v ≤ w .volume
-  pub exact : w .ended ≡ true → (0 < w .volume) × (w .steps * w .v ≤ w .volume) × (w .volume < (w .steps + 1) * w .v)
-
 -- the steps of all visits, and the steps of all reports
 unfoldable pub stepsIn : List Dose → ℕ
 stepsIn [] = 0
@@ -224,20 +216,6 @@ stepsIn (w ∷ ws) = w .steps + stepsIn ws
 unfoldable pub stepsGiven : List Event → ℕ
 stepsGiven [] = 0
 stepsGiven (e ∷ es) = stepsOf e + stepsGiven es
-
--- a step is given in a visit only: by an event that works one   (01, Ticks and phases, RAT: "Working tick")
-abbrev pub InVisit : Event → Type 0
-InVisit e = 0 < stepsOf e → works e ≡ true
-
--- and that visit is the newest that is written down: of the phase in place, at the diameter set, and not ended
-pub record Present (p : Pump) (w : Dose) : Type 0 where
-  pub its-volume : w .volume ≡ inFemtolitres (p .core .diameter) (hereOf p .volume)
-  pub its-v : w .v ≡ stepVolume (p .core .diameter)
-  pub not-ended : w .ended ≡ false
-
-abbrev pub Newest : (Dose → Type 0) → List Dose → Type 0
-Newest P [] = ⊥
-Newest P (w ∷ ws) = P w
 
 -- ==== The steps that the rules give, from the state before a call and from what was given before. Only a working tick of a visit gives
 -- steps   (01, Ticks and phases, RAT; What a bidder's proof must pin: "the steps the rules give")
@@ -283,17 +261,3 @@ addedUp d x e = if clears d e then 0 else x + ruled d x (e .before) (e .call) * 
 
 unfoldable pub ruledVolume : Direction → List Event → ℕ
 ruledVolume d es = noted (addedUp d) 0 es
-
--- ==== The limits: at most four steps are reported, in both directions together   (01, Volumes: a usable rate)
-abbrev pub FourSteps : Event → Type 0
-FourSteps e = e .report .infused + e .report .withdrawn ≤ 4
-
--- at most three loops are open, and no two of them were begun by the same phase   (01, Calls: when a state is sound)
-pub record ThreeLoops (p : Pump) : Type 0 where
-  pub three : p .core .run .loops .count ≤ 3
-  pub different-phases :
-      (i j : ℕ)
-      → i < j
-      → j < p .core .run .loops .count
-      → slot (p .core .run .loops) i .begun ≡ slot (p .core .run .loops) j .begun
-      → ⊥

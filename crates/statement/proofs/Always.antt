@@ -14,7 +14,7 @@ use lib.ListN.{length}
 use Rattle.base.specs.If.{if_then_else_}
 use Rattle.engine.specs.Edges.{pinTwo, pinFour, pinSix}
 use Rattle.pump.specs.Calls.{ticked, tickCall, edged, levelled, pinCall}
-use Rattle.pump.specs.Holder.{phaseCount, withCore, freshPump, soundPump}
+use Rattle.pump.specs.Holder.{phaseCount, modelPhases, withCore, freshPump, soundPump}
 use Rattle.pump.specs.Reports.{numberOf, refused, reported}
 use Rattle.pump.specs.declared.holder.Pump.{Pump}
 use Rattle.pump.specs.declared.reports.Refusal.the-variants.{Accepted, ShortBuffer, NoPin, NoLevel, Unsound}
@@ -122,6 +122,10 @@ after-whole p [] w = w
 after-whole p (c ∷ calls) w = after-whole (reportAfter p c .pump) calls (call-whole p c w)
 
 -- ---- from power-up on
+-- this model is one
+pub model : Model modelPhases
+model = record { some = omega arith; few = omega arith }
+
 pub phases-after : (n : ℕ) (calls : List Call) → phaseCount (after (freshPump n) calls) ≡ n
 phases-after n calls = after-phases (freshPump n) calls ∙ fresh-count n
 

@@ -29,15 +29,12 @@ use Rattle.statement.specs.Outcomes.{Still, Ticked, Edge, two-high, two-
 use Rattle.statement.specs.Outcomes.{Levelled, Told, Heard, Does}
 use Rattle.statement.proofs.Hearing.{saidBy, hears}
 use Rattle.statement.proofs.Verdicts.{Fine}
+use Rattle.statement.proofs.Wholes.{sound-tick}
 
 -- ---- an accepted call does what the relation says
 tick-does : (p : Pump) → soundPump p ≡ true → Ticked p (outcomeOf p tickIn)
-unfolding tickCall
-tick-does p e = subst (λ r. Ticked p (record { report = r; buffer = [] })) (sym (taken-tick e)) done
+tick-does p e = subst (λ r. Ticked p (record { report = r; buffer = [] })) (sym (sound-tick p e)) done
   where
-    taken-tick : soundPump p ≡ true → tickCall p ≡ ticked p
-    taken-tick k = rw k refl
-
     done : Ticked p (record { report = ticked p; buffer = [] })
     done =
         record {

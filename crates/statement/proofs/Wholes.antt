@@ -108,6 +108,11 @@ pub core-sound :
     (p : Pump) → soundPump p ≡ true → (s : Core) → Kept (phaseCount p) (phaseAt (p .phases)) s → soundPump (withCore p s) ≡ true
 core-sound p e s k = pump-sound (withCore p s) (pump-phases p e) k (pump-line p e)
 
+-- a sound pump's tick is what the rules give
+pub sound-tick : (p : Pump) → soundPump p ≡ true → tickCall p ≡ ticked p
+unfolding tickCall
+sound-tick p e = rw e refl
+
 module _ (p : Pump) (h : phaseCount p ≤ 99) (e : soundPump p ≡ true) where
   pub table-here : Table (phaseCount p) (phaseAt (p .phases))
   table-here = table-of (p .phases) h (pump-phases p e)
@@ -117,12 +122,7 @@ module _ (p : Pump) (h : phaseCount p ≤ 99) (e : soundPump p ≡ true) where
   ticked-whole = core-sound p e _ (tick-kept (phaseCount p) (phaseAt (p .phases)) table-here (p .core) (pump-core p e))
 
   pub tick-whole : soundPump (tickCall p .pump) ≡ true
-  unfolding tickCall
-  tick-whole = go (soundPump p)
-    where
-      go : (t : Bool) → soundPump (if_then_else_ {A = Report} t (ticked p) (refused p Unsound) .pump) ≡ true
-      go true = ticked-whole
-      go false = e
+  tick-whole = ap (λ (r : Report). soundPump (r .pump)) (sound-tick p e) ∙ ticked-whole
 
   -- ---- a pin level
   edged-whole : (pin : ℕ) (high : Bool) → soundPump (edged p pin high) ≡ true

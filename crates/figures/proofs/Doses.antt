@@ -1,0 +1,62 @@
+-- Figures h and i: the steps of a run up to its end are all that there ever are.
+-- Assumes nothing.
+use Prim.Native.Nat.{ℕ, _+_}
+use Prim.Native.String.{String}
+use mathlib.Core.Path.{_≡_, refl, sym, ap, ap₂, _∙_}
+use mathlib.Core.List.{List, [], _∷_, _++_, append-assoc}
+use native.Mathlib.Nat.{add-zero, zero-add, add-assoc}
+use Rattle.engine.specs.declared.state.Mode.the-variants.{Stopped}
+use Rattle.pump.specs.declared.reports.Report.{Report}
+use Rattle.pump.specs.Holder.{modelPhases}
+use Rattle.statement.specs.Histories.{Call, after}
+use Rattle.statement.proofs.Always.{model, sound-after}
+use Rattle.sheet.specs.Observations.{Event, Every, trace, stepsOf, stepsGiven}
+use Rattle.sheet.specs.Sending.{lines, ticks}
+use Rattle.sheet.proofs.Joining.{trace-both, ticks-both}
+use Rattle.sheet.proofs.Opening.{opened}
+use Rattle.sheet.proofs.Stops.{Standing, stopped-stands}
+use Rattle.figures.specs.Figures.{tooLittle, justEnough, microlitre}
+use Rattle.figures.specs.Rows.{atPowerUp}
+
+-- ---- steps in two parts, and the steps of a stopped pump
+steps-both : (a b : List Event) → stepsGiven (a ++ b) ≡ stepsGiven a + stepsGiven b
+unfolding stepsGiven
+steps-both [] b = sym (zero-add _)
+steps-both (e ∷ a) b =
+    ap (λ (n : ℕ). stepsOf e + n) (steps-both a b) ∙ sym (add-assoc (stepsOf e) (stepsGiven a) (stepsGiven b))
+
+no-steps : (es : List Event) → Every Standing es → stepsGiven es ≡ 0
+unfolding stepsGiven stepsOf
+no-steps [] h = refl
+no-steps (e ∷ es) h =
+    ap₂ (λ (r : Report) (n : ℕ). r .infused + r .withdrawn + n) (h .0 .nothing) (no-steps es (h .1))
+
+-- ---- n ticks of a run, after which the pump is stopped, and k more
+all-given :
+    (ts : List String) (n steps : ℕ)
+    → after atPowerUp (lines ts ++ ticks n) .core .run .mode ≡ Stopped
+    → stepsGiven (trace atPowerUp (lines ts ++ ticks n)) ≡ steps
+    → (k : ℕ)
+    → stepsGiven (trace atPowerUp (lines ts ++ ticks (n + k))) ≡ steps
+all-given ts n steps stops gives k =
+    ap (λ (cs : List Call). stepsGiven (trace atPowerUp (lines ts ++ cs))) (ticks-both n k)
+    ∙ ap (λ (cs : List Call). stepsGiven (trace atPowerUp cs)) (sym (append-assoc (lines ts) (ticks n) (ticks k)))
+    ∙ ap stepsGiven (trace-both atPowerUp (lines ts ++ ticks n) (ticks k))
+    ∙ steps-both (trace atPowerUp (lines ts ++ ticks n)) (trace (after atPowerUp (lines ts ++ ticks n)) (ticks k))
+    ∙ ap₂ (λ (a b : ℕ). a + b) gives
+    (no-steps (trace (after atPowerUp (lines ts ++ ticks n)) (ticks k))
+    (stopped-stands (after atPowerUp (lines ts ++ ticks n)) (sound-after modelPhases model (lines ts ++ ticks n)) stops k))
+    ∙ add-zero steps
+
+-- ---- the three runs
+pub none-fits : (k : ℕ) → stepsGiven (trace atPowerUp (lines tooLittle ++ ticks (2 + k))) ≡ 0
+unfolding opened ticks stepsGiven stepsOf tooLittle
+none-fits = all-given tooLittle 2 0 refl refl
+
+pub one-fits : (k : ℕ) → stepsGiven (trace atPowerUp (lines justEnough ++ ticks (3 + k))) ≡ 1
+unfolding opened ticks stepsGiven stepsOf justEnough
+one-fits = all-given justEnough 3 1 refl refl
+
+pub fifty-fit : (k : ℕ) → stepsGiven (trace atPowerUp (lines microlitre ++ ticks (20 + k))) ≡ 50
+unfolding opened ticks stepsGiven stepsOf microlitre
+fifty-fit = all-given microlitre 20 50 refl refl

@@ -1,0 +1,5 @@
+-- The marked figures hold.
+pub mod Leaps
+pub mod Entries
+pub mod Doses
+pub mod Holding

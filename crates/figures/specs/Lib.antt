@@ -1,0 +1,3 @@
+-- The marked figures.
+pub mod Rows
+pub mod Figures

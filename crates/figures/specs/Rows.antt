@@ -1,0 +1,86 @@
+-- What a row of the marked figures says, and what is observed for it: from power-up, through the calls alone.   (01, Marked figures)
+use Prim.Native.Nat.{ℕ, _+_}
+use Prim.Native.Char.{Char}
+use Prim.Native.String.{String}
+use mathlib.Core.Path.{_≡_}
+use mathlib.Core.Bool.{Bool, _&&_}
+use mathlib.Core.List.{List, [], _∷_, _++_}
+use lib.Dec.{eqb}
+use lib.ListN.{take}
+use Rattle.base.specs.If.{if_then_else_}
+use Rattle.base.specs.Text.{letter, text}
+use Rattle.decimal.specs.Print.{printed}
+use Rattle.engine.specs.Queries.{operating}
+use Rattle.engine.specs.Sound.{isEntering}
+use Rattle.engine.specs.declared.state.Core.{Core}
+use Rattle.pump.specs.Holder.{modelPhases, freshPump}
+use Rattle.pump.specs.declared.holder.Pump.{Pump}
+use Rattle.sheet.specs.Observations.{Event, trace, tickTaken, stepsGiven}
+use Rattle.sheet.specs.Sending.{lines, ticks}
+
+-- the pump just switched on, from which every row goes   (01, Commands: Power-up)
+abbrev pub atPowerUp : Pump
+atPowerUp = freshPump modelPhases
+
+-- ---- a row: its letter, what the document says, and what the definitions give, where k more ticks may go by; a row in which no tick goes
+-- by takes no notice of k. Each side is one number, or bytes
+pub record Row : Type 0 where
+  pub mark : ℕ
+  pub paper : List ℕ
+  pub given : ℕ → List ℕ
+
+-- the claim of a row: they are the same, however many more ticks go by
+abbrev pub Holds : Row → Type 0
+Holds r = (k : ℕ) → r .given k ≡ r .paper
+
+-- ---- a, b, c: a number that a definition gives
+abbrev pub number : Char → ℕ → ℕ → Row
+number c n m = record { mark = letter c; paper = n ∷ []; given = λ k. m ∷ [] }
+
+-- ---- j, k: so many thousandths as they are printed
+abbrev pub prints : Char → ℕ → String → Row
+prints c n t = record { mark = letter c; paper = text t; given = λ k. printed n }
+
+-- ---- d, e, f, g: lines sent, and every byte that is answered to them
+-- what the calls answer: of each one's buffer as many bytes as its report says   (01, Calls: "one whole answer, and reports its length")
+unfoldable pub answered : List Event → List ℕ
+answered [] = []
+answered (e ∷ es) = take (e .report .length) (e .behind) ++ answered es
+
+-- the lines of a talk, and the answers to them, each between STX and ETX   (01, Line and answer)
+abbrev pub asked : List (String × String) → List String
+asked [] = []
+asked (said ∷ talk) = said .0 ∷ asked talk
+
+abbrev pub framed : List (String × String) → List ℕ
+framed [] = []
+framed (said ∷ talk) = 2 ∷ text (said .1) ++ 3 ∷ framed talk
+
+abbrev pub talks : Char → List (String × String) → Row
+talks c talk = record { mark = letter c; paper = framed talk; given = λ k. answered (trace atPowerUp (lines (asked talk))) }
+
+-- ---- h, i: the steps of all reports, when lines are sent and n ticks go by, and any k more
+abbrev pub doses : Char → List String → ℕ → ℕ → Row
+doses c ts n steps =
+    record { mark = letter c; paper = steps ∷ []; given = λ k. stepsGiven (trace atPowerUp (lines ts ++ ticks (n + k))) ∷ [] }
+
+-- ---- l: how often a phase is entered, when lines are sent and n ticks go by, and any k more
+-- a tick would enter that phase: the pump runs, the phase is the current one, and it is not entered   (01, Ticks and phases: "A tick does
+-- one of: enter the current phase, or work the entered one")
+unfoldable pub entering : ℕ → Core → Bool
+entering phase s = operating s && (isEntering (s .run .place .work) && eqb (s .run .place .current) phase)
+
+-- the event is a tick that was not refused, and entered it
+unfoldable pub enters : ℕ → Event → Bool
+enters phase e = tickTaken e && entering phase (e .before .core)
+
+abbrev pub oneIf : Bool → ℕ
+oneIf t = if t then 1 else 0
+
+unfoldable pub entries : ℕ → List Event → ℕ
+entries phase [] = 0
+entries phase (e ∷ es) = oneIf (enters phase e) + entries phase es
+
+abbrev pub visitsPhase : Char → ℕ → List String → ℕ → ℕ → Row
+visitsPhase c phase ts n times =
+    record { mark = letter c; paper = times ∷ []; given = λ k. entries phase (trace atPowerUp (lines ts ++ ticks (n + k))) ∷ [] }

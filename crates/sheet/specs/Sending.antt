@@ -1,0 +1,26 @@
+-- What is sent to the pump: lines, a byte a call, and ticks.   (01, Calls; Line and answer; Marked figures: the bench program)
+use Prim.Native.Nat.{ℕ, zero, suc}
+use Prim.Native.String.{String}
+use mathlib.Core.List.{List, [], _∷_, _++_}
+use lib.ListN.{replicate}
+use Rattle.base.specs.Text.{text}
+use Rattle.answer.specs.Answers.{room}
+use Rattle.statement.specs.Histories.{Call, byteIn, tickIn}
+
+-- the bytes of a text and then the return that ends the line, each with a buffer that has just room for an answer
+abbrev pub sent : List ℕ → List Call
+sent [] = byteIn 13 (replicate room 0) ∷ []
+sent (b ∷ bs) = byteIn b (replicate room 0) ∷ sent bs
+
+abbrev pub line : String → List Call
+line t = sent (text t)
+
+-- one line after the other
+abbrev pub lines : List String → List Call
+lines [] = []
+lines (t ∷ ts) = line t ++ lines ts
+
+-- so many ticks; shut, since a figure has more than a million of them
+unfoldable pub ticks : ℕ → List Call
+ticks zero = []
+ticks (suc n) = tickIn ∷ ticks n

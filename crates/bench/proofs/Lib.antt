@@ -3,6 +3,7 @@
 pub mod Asking
 pub mod Letters
 pub mod Standing
+pub mod Deeds
 pub mod Decimals
 pub mod Prints
 pub mod Answers

@@ -2,6 +2,7 @@
 -- Assumes nothing.
 use Prim.Native.Nat.{ℕ, zero, suc, _+_, _-_, _≤_, _<_}
 use mathlib.Core.Path.{_≡_, refl, sym, ap, _∙_}
+use mathlib.Core.Bool.{false}
 use mathlib.Core.List.{List, [], _∷_, _++_, append-assoc, append-nil}
 use native.Mathlib.Numerals.{add-one}
 use native.Mathlib.Omega.{arith}
@@ -9,15 +10,17 @@ use lib.ListN.{length, take, drop, getD, take-append-drop, length-drop, drop-of-
 use lib.Seq.{take-suc, take-all, drop-drop}
 use Rattle.base.specs.Wrote.{Wrote}
 use Rattle.base.proofs.Writing.{wrote-as, wrote-then, wrote-none, wrote-length}
-use Rattle.bench.specs.Places.{after, inputEnd}
+use Rattle.bench.specs.Places.{isDeed, after, inputEnd}
 use Rattle.bench.specs.Printing.{Prints}
 use Rattle.bench.specs.Rigs.{rigAfter, printed}
 use Rattle.bench.specs.Scripts.{turned, turnSays, played, says, closing, Feeds}
 use Rattle.bench.specs.declared.places.Act.{Act}
 use Rattle.bench.specs.declared.feeding.Bench.{Bench}
 use Rattle.bench.specs.declared.feeding.Fed.{Fed}
+use Rattle.bench.specs.declared.places.Place.{Place}
 use Rattle.bench.specs.declared.places.Step.{Step}
 use Rattle.bench.specs.declared.rigs.Rig.{Rig}
+use Rattle.bench.proofs.Deeds.{waits}
 
 -- ---- one byte
 module _ (w : Bench) (b : ℕ) (step : Step) (e : step ≡ after (w .place) b) where
@@ -30,6 +33,20 @@ module _ (w : Bench) (b : ℕ) (step : Step) (e : step ≡ after (w .place) b) w
       {l m : List ℕ} {i j most : ℕ} → Prints l m i j most (printed (w .rig) (step .act)) → Wrote l m i j (turnSays w b)
   unfolding turnSays
   turn-wrote p = wrote-as (p .wrote) (ap (λ (s : Step). printed (w .rig) (s .act)) e)
+
+  -- nothing is asked for
+  module _ (d : isDeed (step .act) ≡ false) where
+    still : rigAfter (w .rig) (step .act) ≡ w .rig
+    still = ap (rigAfter (w .rig)) (waits (step .act) d)
+
+    pub wait-bench : _≡_ {A = Bench} (record { rig = w .rig; place = step .place }) (turned w b)
+    wait-bench = turn-bench (w .rig) (sym still)
+
+    pub wait-wrote : (l : List ℕ) (i : ℕ) → i ≤ length l → Wrote l l i i (turnSays w b)
+    unfolding turnSays
+    wait-wrote l i h =
+        wrote-as (wrote-none l i h)
+        (ap (printed (w .rig)) (sym (waits (step .act) d)) ∙ ap (λ (s : Step). printed (w .rig) (s .act)) e)
 
 -- ---- the end of the input
 pub closing-wrote :
@@ -94,9 +111,34 @@ module _ {w : Bench} {s l m : List ℕ} {now : Bench} {i at : ℕ} (f : Feeding 
         same = wrote-length v ∙ f .same;
       }
 
+  -- by the act that the byte asks for, or where it asks for none
+  module _ (h : i < length s) (step : Step) (e : step ≡ after (now .place) (getD s i 0)) where
+    pub feeding-act :
+        {o : List ℕ} {r : Rig} {end most : ℕ}
+        → r ≡ rigAfter (now .rig) (step .act)
+        → Prints m o at end most (printed (now .rig) (step .act))
+        → Feeding w s l o (record { rig = r; place = step .place }) (i + 1) end
+    feeding-act {r = r} k p = feeding-more h (turn-bench now _ step e r k) (turn-wrote now _ step e p)
+
+    pub feeding-wait :
+        isDeed (step .act) ≡ false
+        → at ≤ length m
+        → Feeding w s l m (record { rig = now .rig; place = step .place }) (i + 1) at
+    feeding-wait d k = feeding-more h (wait-bench now _ step e d) (wait-wrote now _ step e d m at k)
+
   pub feeding-all : length s ≤ i → Feeds w s l m (record { bench = now; taken = i; end = at })
   feeding-all h =
       record { within = f .within; some = λ (z : 0 < length s). omega arith; stands = f .stands; wrote = f .wrote }
+
+-- where two ways meet, with what each of them left
+pub feeding-as :
+    {w : Bench} {s l o o′ : List ℕ} {r r′ : Rig} {q : Place} {i end end′ : ℕ}
+    → o′ ≡ o
+    → r′ ≡ r
+    → end′ ≡ end
+    → Feeding w s l o (record { rig = r; place = q }) i end
+    → Feeding w s l o′ (record { rig = r′; place = q }) i end′
+feeding-as x y z f = rw (x, y, z) f
 
 -- a buffer with room for one byte's lines is full only after a byte
 some-taken :

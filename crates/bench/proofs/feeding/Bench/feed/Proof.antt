@@ -2,20 +2,23 @@
 -- Assumes nothing.
 use Prim.Native.Nat.{_-_}
 use lib.ListN.{length}
+use mathlib.Core.Path.{sym, _∙_}
+use mathlib.Core.Logic.{⊎-elim}
 use native.Mathlib.Omega.{arith}
-use Rattle.bench.proofs.Playing.{Feeding, feeding-none, feeding-more, feeding-full, feeding-all}
+use borrow.Author.Needs.{needs}
+use Rattle.bench.proofs.Playing.{Feeding, feeding-none, feeding-act, feeding-wait, feeding-as, feeding-full, feeding-all}
 use Rattle.bench.proofs.feeding.Bench.feed.Statement.{statement}
 use Rattle.bench.proofs.feeding.Bench.feed.Tie as tie
 
 abbrev Inv-loop : tie.InvT-loop
-Inv-loop s out₀ now₀ i₀ at₀ out now i at = Feeding now₀ s out₀ out now i at
+Inv-loop s out₀ rig₀ place₀ i₀ at₀ out rig place i at =
+    Feeding (record { rig = rig₀; place = place₀ }) s out₀ out (record { rig = rig; place = place }) i at
 
 abbrev μ-loop : tie.MeasureT-loop
-μ-loop s out₀ now₀ i₀ at₀ out now i at = length s - i
+μ-loop s out₀ rig₀ place₀ i₀ at₀ out rig place i at = length s - i
 
 loop-holds : tie.Need-loop-holds Inv-loop μ-loop
-loop-holds c =
-    feeding-none _ _ _
+loop-holds c = feeding-none _ _ _
 
 sub-if1 : tie.Need-sub-if1 Inv-loop μ-loop
 sub-if1 c = omega arith
@@ -24,14 +27,19 @@ same-length : tie.Need-same-length Inv-loop μ-loop
 same-length c = omega arith
 
 returns : tie.Need-returns Inv-loop μ-loop
-returns c =
-    feeding-full (c .before .before .loop .inv) (omega arith) (omega arith)
+returns c = feeding-full (c .before .before .loop .inv) (omega arith) (omega arith)
 
-shared-slice-read-turn : tie.Need-shared-slice-read-turn Inv-loop μ-loop
-shared-slice-read-turn c = omega arith
+shared-slice-read-after : tie.Need-shared-slice-read-after Inv-loop μ-loop
+shared-slice-read-after c = omega arith
 
-turn-requires : tie.Need-turn-requires Inv-loop μ-loop
-turn-requires c κs = omega arith
+after-requires : tie.Need-after-requires Inv-loop μ-loop
+after-requires c κs = search needs
+
+is-deed-requires : tie.Need-is-deed-requires Inv-loop μ-loop
+is-deed-requires c κs = search needs
+
+act-requires : tie.Need-act-requires Inv-loop μ-loop
+act-requires c κs = omega arith
 
 add-i : tie.Need-add-i Inv-loop μ-loop
 add-i c = omega arith
@@ -41,17 +49,22 @@ loop-less c = omega arith
 
 loop-again : tie.Need-loop-again Inv-loop μ-loop
 loop-again c =
-    let turn-at = c .before .before .before in
-    let loop-at = turn-at .before .before .before .before .before in
-    let t = turn-at .turn .ensures in
-    feeding-more (loop-at .loop .inv) (omega arith) (t .0) (t .1)
+    let after-at = c .before .before in
+    let loop-at = after-at .before .before .before .before in
+    ⊎-elim
+    (λ w.
+        feeding-as (w .6) (w .7) (w .8)
+        (feeding-act (loop-at .loop .inv) (omega arith) _ (after-at .after .ensures) (w .2 .ensures .0) (w .2 .ensures .1)))
+    (λ w.
+        feeding-as (w .1) (w .2) (w .3)
+        (feeding-wait (loop-at .loop .inv) (omega arith) _ (after-at .after .ensures) (sym (c .before .is-deed .ensures) ∙ w .0 .left) (omega arith)))
+    (c .if2 .came)
 
 same-length-2 : tie.Need-same-length-2 Inv-loop μ-loop
 same-length-2 c = omega arith
 
 returns-2 : tie.Need-returns-2 Inv-loop μ-loop
-returns-2 c =
-    feeding-all (c .before .loop .inv) (omega arith)
+returns-2 c = feeding-all (c .before .loop .inv) (omega arith)
 
 pub feed-spec : {M : Type 1} → statement M
 feed-spec =
@@ -63,8 +76,10 @@ feed-spec =
     sub-if1
     same-length
     returns
-    shared-slice-read-turn
-    turn-requires
+    shared-slice-read-after
+    after-requires
+    is-deed-requires
+    act-requires
     add-i
     loop-less
     loop-again

@@ -10,11 +10,10 @@ use borrow.Author.Tests.{eq-eqb, ne-eqb}
 use Rattle.base.specs.Wrote.{Wrote}
 use Rattle.base.proofs.Writing.{wrote-then, wrote-none}
 use Rattle.pump.specs.Calls.{byteReport, byteBuffer, pinCall}
-use Rattle.pump.specs.Holder.{soundPump}
 use Rattle.pump.specs.Reports.{numberOf}
 use Rattle.pump.specs.declared.reports.Report.{Report}
 use Rattle.bench.specs.Printing.{Prints, complaintLine, framed, countsLine}
-use Rattle.bench.specs.Rigs.{zeros, reportOn, bufferOn, answerLine, sentRig, sentLine, sendRig, sendLines}
+use Rattle.bench.specs.Rigs.{withPump, zeros, reportOn, bufferOn, answerLine, sentRig, sentLine, sendRig, sendLines}
 use Rattle.bench.specs.Rigs.{finishRig, finishLines, setRig, setLines, runRig, runLines, rigAfter, printed}
 use Rattle.many.specs.Ticking.{ticked}
 use Rattle.bench.specs.declared.places.Act.{Act}
@@ -138,25 +137,22 @@ module _ (g : Rig) (pin level : ℕ) (r : Report) (e : r ≡ pinCall (g .pump) p
         prints-as w (rw (← e) (sym (simp (ne-eqb (numberOf (r .refusal)) 0 (λ z. n (q ∙ z)))))) (omega (arith, w .ends))
 
 -- ---- ticks
-module _ (g : Rig) (n : ℕ) (s : Bool) (e : s ≡ soundPump (g .pump)) where
-  module _ (y : s ≡ true) (t : Ticked) (f : t ≡ ticked n (g .pump)) where
-    pub run-rig : _≡_ {A = Rig} (record { pump = t .pump; answered = g .answered }) (runRig g n)
-    unfolding runRig
-    run-rig = rw f (sym (simp (sym e ∙ y)))
+module _ (g : Rig) (n : ℕ) (t : Ticked) (f : t ≡ ticked n (g .pump)) where
+  pub run-rig : _≡_ {A = Rig} (record { pump = t .pump; answered = g .answered }) (runRig g n)
+  unfolding runRig
+  run-rig = ap (λ (u : Ticked). withPump g (u .pump)) f
 
-    pub run-prints :
-        {l m : List ℕ} {i j : ℕ} → Prints l m i j 69 (countsLine n (t .infused) (t .withdrawn)) → Prints l m i j 69 (runLines g n)
-    unfolding runLines
-    run-prints w = prints-as (w .wrote) (rw f (sym (simp (sym e ∙ y)))) (w .few)
+  pub run-prints :
+      {l m : List ℕ} {i j : ℕ}
+      → t .sound ≡ true
+      → Prints l m i j 69 (countsLine n (t .infused) (t .withdrawn))
+      → Prints l m i j 69 (runLines g n)
+  unfolding runLines
+  run-prints y w = prints-as (w .wrote) (rw (← f) (sym (simp y))) (w .few)
 
-  module _ (y : s ≡ false) where
-    pub unrun-rig : g ≡ runRig g n
-    unfolding runRig
-    unrun-rig = sym (simp (sym e ∙ y))
-
-    pub unrun-prints : {l m : List ℕ} {i j : ℕ} → Wrote l m i j complaintLine → Prints l m i j 69 (runLines g n)
-    unfolding runLines
-    unrun-prints w = prints-as w (sym (simp (sym e ∙ y))) (omega (arith, w .ends))
+  pub unrun-prints : {l m : List ℕ} {i j : ℕ} → t .sound ≡ false → Wrote l m i j complaintLine → Prints l m i j 69 (runLines g n)
+  unfolding runLines
+  unrun-prints y w = prints-as w (rw (← f) (sym (simp y))) (omega (arith, w .ends))
 
 -- ---- every act
 module _ (g : Rig) (a : Act) where

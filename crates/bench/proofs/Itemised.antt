@@ -9,7 +9,7 @@ use lib.Dec.{eqb}
 use lib.ListN.{length}
 use Rattle.base.specs.If.{if_then_else_}
 use Rattle.base.specs.Text.{letter}
-use Rattle.pump.specs.Holder.{modelPhases, freshPump, soundPump}
+use Rattle.pump.specs.Holder.{modelPhases, freshPump}
 use Rattle.pump.specs.declared.holder.Pump.{Pump}
 use Rattle.bench.specs.Items.{Item, say, level, ticks, noItem, ticksItem, levelItem, tickItem, edgeItem, itemOf}
 use Rattle.bench.specs.Items.{valueOf, upToBlank, pastBlank}
@@ -47,11 +47,7 @@ module _ (p : Pump) (r : List ℕ) where
   -- ---- ticks
   run-done : (n : ℕ) → acted (idle p) (Run n) r ≡ done p (ticks n) r
   unfolding runRig runLines
-  run-done n = go (soundPump p) refl
-    where
-      go : (t : Bool) → soundPump p ≡ t → acted (idle p) (Run n) r ≡ done p (ticks n) r
-      go true e = rw e
-      go false e = rw e
+  run-done n = refl
 
   run-or-none : (t : Bool) (n : ℕ) → acted (idle p) (if t then Run n else Complain) r ≡ done p (if t then ticks n else noItem) r
   run-or-none true n = run-done n

@@ -9,7 +9,7 @@ use Rattle.base.specs.Text.{letter}
 use Rattle.decimal.specs.Read.{isDigit}
 use Rattle.many.specs.Ticking.{ticked}
 use Rattle.pump.specs.Calls.{pinCall}
-use Rattle.pump.specs.Holder.{modelPhases, freshPump, soundPump}
+use Rattle.pump.specs.Holder.{modelPhases, freshPump}
 use Rattle.pump.specs.declared.holder.Pump.{Pump}
 use Rattle.bench.specs.Places.{carriageReturn, newline}
 use Rattle.bench.specs.Printing.{complaintLine, countsLine}
@@ -112,7 +112,7 @@ orEmptyLine (b ∷ s) = b ∷ s
 abbrev pub pumpAfter : Pump → Item → Pump
 pumpAfter p (say s) = sent p (s ++ (carriageReturn ∷ []))
 pumpAfter p (level pin high) = pinCall p pin high .pump
-pumpAfter p (ticks n) = if soundPump p then ticked n p .pump else p
+pumpAfter p (ticks n) = ticked n p .pump
 pumpAfter p noItem = p
 
 -- ---- and what it prints
@@ -120,7 +120,7 @@ abbrev pub itemLines : Pump → Item → List ℕ
 itemLines p (say s) = orEmptyLine (answers p (s ++ (carriageReturn ∷ [])))
 itemLines p (level pin high) = if isRefused (pinCall p pin high .refusal) then complaintLine else []
 itemLines p (ticks n) =
-    if soundPump p then countsLine n (ticked n p .infused) (ticked n p .withdrawn) else complaintLine
+    if ticked n p .sound then countsLine n (ticked n p .infused) (ticked n p .withdrawn) else complaintLine
 itemLines p noItem = complaintLine
 
 -- ---- line by line: all that is printed, and the pump behind the last line

@@ -6,7 +6,7 @@ use lib.Dec.{eqb}
 use lib.ListN.{replicate}
 use Rattle.base.specs.If.{if_then_else_}
 use Rattle.pump.specs.Calls.{byteReport, byteBuffer, pinCall}
-use Rattle.pump.specs.Holder.{modelPhases, freshPump, soundPump}
+use Rattle.pump.specs.Holder.{modelPhases, freshPump}
 use Rattle.pump.specs.Reports.{numberOf}
 use Rattle.pump.specs.declared.holder.Pump.{Pump}
 use Rattle.pump.specs.declared.reports.Refusal.{Refusal}
@@ -84,11 +84,11 @@ setLines g pin level = if isRefused (pinCall (g .pump) pin level .refusal) then 
 
 -- ---- `T n`: n ticks and the counts of their steps; ticks are refused where the state is not sound
 unfoldable pub runRig : Rig → ℕ → Rig
-runRig g n = if soundPump (g .pump) then withPump g (ticked n (g .pump) .pump) else g
+runRig g n = withPump g (ticked n (g .pump) .pump)
 
 unfoldable pub runLines : Rig → ℕ → List ℕ
 runLines g n =
-    if soundPump (g .pump)
+    if ticked n (g .pump) .sound
     then countsLine n (ticked n (g .pump) .infused) (ticked n (g .pump) .withdrawn)
     else complaintLine
 

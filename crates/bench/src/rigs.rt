@@ -172,19 +172,20 @@ impl Rig {
             ⌝ }
     {
         let pump = self.pump;
-        if pump.sound() {
-            let ticked = ticks(pump, n);
-            let next = ticked.pump;
+        let ticked = ticks(pump, n);
+        let next = ticked.pump;
+        let rig = Rig {
+            pump: next,
+            answered: self.answered,
+        };
+        if ticked.sound {
             return Acted {
-                rig: Rig {
-                    pump: next,
-                    answered: self.answered,
-                },
+                rig: rig,
                 end: counts(n as u64, ticked.infused, ticked.withdrawn, out, at),
             };
         }
         Acted {
-            rig: self,
+            rig: rig,
             end: complaint(out, at),
         }
     }

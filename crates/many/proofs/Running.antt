@@ -2,7 +2,7 @@
 -- Assumes nothing.
 use Prim.Native.Nat.{ℕ, zero, suc, _+_, _*_, _≤_}
 use mathlib.Core.Path.{_≡_, refl, sym, ap, _∙_, subst}
-use mathlib.Core.Bool.{true, false}
+use mathlib.Core.Bool.{Bool, true, false}
 use native.Mathlib.Omega.{arith}
 use Rattle.program.specs.declared.phases.Phase.{Phase}
 use Rattle.engine.specs.Sound.{Ready}
@@ -23,13 +23,19 @@ use Rattle.many.specs.declared.Ticked.{Ticked}
 -- i ticks from p gave this core and these sums; a tick gives at most 255 steps in a direction
 pub record Ran (p : Pump) (core : Core) (infused withdrawn i : ℕ) : Type 0 where
   pub sound : soundPump (withCore p core) ≡ true
-  pub same : _≡_ {A = Ticked} (record { pump = withCore p core; infused = infused; withdrawn = withdrawn }) (ticked i p)
+  pub same : _≡_ {A = Ticked} (record { pump = withCore p core; infused = infused; withdrawn = withdrawn; sound = true }) (ticked i p)
   pub infused-few : infused ≤ i * 255
   pub withdrawn-few : withdrawn ≤ i * 255
 
 pub ran-none : (p : Pump) → soundPump p ≡ true → Ran p (p .core) 0 0 0
 unfolding ticked
-ran-none p sound = record { sound = sound; same = refl; infused-few = omega arith; withdrawn-few = omega arith }
+ran-none p sound =
+    record {
+      sound = sound;
+      same = ap (λ (t : Bool). record { pump = p; infused = 0; withdrawn = 0; sound = t }) (sym sound);
+      infused-few = omega arith;
+      withdrawn-few = omega arith;
+    }
 
 module _ {count : ℕ} (p : Pump) (full : phaseCount p ≡ count) (few : count ≤ 99) (core : Core) (a b i : ℕ)
     (ran : Ran p core a b i) (here : Phase) (h : here ≡ phaseAt (p .phases) (core .run .place .current)) where
@@ -44,10 +50,10 @@ module _ {count : ℕ} (p : Pump) (full : phaseCount p ≡ count) (few : count �
   counted :
       (m : Moved)
       → m ≡ tickOf core here
-      → _≡_ {A = Ticked} (record { pump = withCore p (m .core); infused = a + m .infused; withdrawn = b + m .withdrawn }) (ticked (i + 1) p)
+      → _≡_ {A = Ticked} (record { pump = withCore p (m .core); infused = a + m .infused; withdrawn = b + m .withdrawn; sound = true }) (ticked (i + 1) p)
   unfolding ticked
   counted m k =
-      ap (withTick (record { pump = withCore p core; infused = a; withdrawn = b })) (sym (called m k))
+      ap (withTick (record { pump = withCore p core; infused = a; withdrawn = b; sound = true })) (sym (called m k))
       ∙ ap (λ (t : Ticked). withTick t (tickCall (t .pump))) (ran .same)
       ∙ ap (λ (n : ℕ). ticked n p) (one-more i)
     where
@@ -75,7 +81,7 @@ pub ran-all :
     → Ran p core a b i
     → i ≤ n
     → n ≤ i
-    → _≡_ {A = Ticked} (record { pump = withCore p core; infused = a; withdrawn = b }) (ticked n p)
+    → _≡_ {A = Ticked} (record { pump = withCore p core; infused = a; withdrawn = b; sound = true }) (ticked n p)
 ran-all p core a b i n ran h k = let e : i ≡ n = omega arith in ran .same ∙ ap (λ (m : ℕ). ticked m p) e
 
 -- ---- a state that is not sound: every tick is refused
@@ -83,9 +89,9 @@ still-tick : (p : Pump) → soundPump p ≡ false → tickCall p ≡ refused p U
 unfolding tickCall
 still-tick p e = rw e refl
 
-pub ran-still : (p : Pump) (n : ℕ) → soundPump p ≡ false → _≡_ {A = Ticked} (record { pump = p; infused = 0; withdrawn = 0 }) (ticked n p)
+pub ran-still : (p : Pump) (n : ℕ) → soundPump p ≡ false → _≡_ {A = Ticked} (record { pump = p; infused = 0; withdrawn = 0; sound = false }) (ticked n p)
 unfolding ticked
-ran-still p zero e = refl
+ran-still p zero e = ap (λ (t : Bool). record { pump = p; infused = 0; withdrawn = 0; sound = t }) (sym e)
 ran-still p (suc n) e =
-    ap (withTick (record { pump = p; infused = 0; withdrawn = 0 })) (sym (still-tick p e))
+    ap (withTick (record { pump = p; infused = 0; withdrawn = 0; sound = false })) (sym (still-tick p e))
     ∙ ap (λ (t : Ticked). withTick t (tickCall (t .pump))) (ran-still p n e)

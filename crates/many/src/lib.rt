@@ -6,11 +6,12 @@ ghost use Rattle.pump.specs.Holder.{soundPump};
 ghost use Rattle.many.specs.Ticking.{ticked};
 use pump::Pump;
 
-// The pump after so many ticks, and the steps that they gave.
+// The pump after so many ticks, the steps that they gave, and whether the state was sound, so that they were taken.
 pub struct Ticked {
     pub pump: Pump,
     pub infused: u64,
     pub withdrawn: u64,
+    pub sound: bool,
 }
 
 // A state that is not sound stays as it is: each of the ticks would be refused.
@@ -24,6 +25,7 @@ pub fn ticks(pump: Pump, n: u32) -> Ticked
         pump: pump,
         infused: 0,
         withdrawn: 0,
+        sound: false,
     }
 }
 
@@ -48,5 +50,6 @@ fn run(pump: Pump, n: u32) -> Ticked
         pump: pump.with_core(core),
         infused: infused,
         withdrawn: withdrawn,
+        sound: true,
     }
 }

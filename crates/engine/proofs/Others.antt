@@ -1,8 +1,9 @@
--- The functions that an arm `_` stands for: none of those that the arms before it name.
+-- The functions that an arm `_` stands for, by the numbers of their cases, counted from 0: all but those that the arms before it name.
 -- Assumes nothing.
+use Prim.Native.Nat.{ℕ}
 use mathlib.Core.Path.{_≡_, refl}
 use mathlib.Core.Bool.{false}
-use mathlib.Core.List.{[], _∷_}
+use mathlib.Core.List.{List, [], _∷_}
 use types.Run.{OneOf, miss}
 use Rattle.answer.specs.declared.replies.Reply.the-variants.{NotApplicable}
 use Rattle.program.specs.declared.functions.Function.{Function}
@@ -14,7 +15,11 @@ use Rattle.engine.specs.Settings.{isFlow, isRamp}
 use Rattle.engine.specs.Sound.{waits}
 use Rattle.engine.specs.Ticks.{beeps}
 
-pub no-beep : (g : Function) → OneOf (0 ∷ 1 ∷ 2 ∷ 3 ∷ 4 ∷ 5 ∷ 6 ∷ 7 ∷ 8 ∷ 9 ∷ 10 ∷ 11 ∷ 12 ∷ 14 ∷ []) (tag g) → false ≡ beeps g
+-- all but BEP
+abbrev pub silentOnes : List ℕ
+silentOnes = 0 ∷ 1 ∷ 2 ∷ 3 ∷ 4 ∷ 5 ∷ 6 ∷ 7 ∷ 8 ∷ 9 ∷ 10 ∷ 11 ∷ 12 ∷ 14 ∷ []
+
+pub no-beep : (g : Function) → OneOf silentOnes (tag g) → false ≡ beeps g
 no-beep f.Rat h = refl
 no-beep f.Inc h = refl
 no-beep f.Dec h = refl
@@ -28,11 +33,15 @@ no-beep (f.Tenths k) h = refl
 no-beep (f.If k) h = refl
 no-beep (f.Evn k) h = refl
 no-beep f.Evr h = refl
-no-beep f.Bep h = absurd (miss (0 ∷ 1 ∷ 2 ∷ 3 ∷ 4 ∷ 5 ∷ 6 ∷ 7 ∷ 8 ∷ 9 ∷ 10 ∷ 11 ∷ 12 ∷ 14 ∷ []) 13 tt h)
+no-beep f.Bep h = absurd (miss silentOnes 13 tt h)
 no-beep (f.Out k) h = refl
 
-pub no-flow : (g : Function) → OneOf (1 ∷ 2 ∷ 3 ∷ 4 ∷ 5 ∷ 6 ∷ 7 ∷ 8 ∷ 9 ∷ 10 ∷ 11 ∷ 12 ∷ 13 ∷ 14 ∷ []) (tag g) → false ≡ isFlow g
-no-flow f.Rat h = absurd (miss (1 ∷ 2 ∷ 3 ∷ 4 ∷ 5 ∷ 6 ∷ 7 ∷ 8 ∷ 9 ∷ 10 ∷ 11 ∷ 12 ∷ 13 ∷ 14 ∷ []) 0 tt h)
+-- all but RAT
+abbrev pub flowless : List ℕ
+flowless = 1 ∷ 2 ∷ 3 ∷ 4 ∷ 5 ∷ 6 ∷ 7 ∷ 8 ∷ 9 ∷ 10 ∷ 11 ∷ 12 ∷ 13 ∷ 14 ∷ []
+
+pub no-flow : (g : Function) → OneOf flowless (tag g) → false ≡ isFlow g
+no-flow f.Rat h = absurd (miss flowless 0 tt h)
 no-flow f.Inc h = refl
 no-flow f.Dec h = refl
 no-flow f.Stp h = refl
@@ -48,10 +57,14 @@ no-flow f.Evr h = refl
 no-flow f.Bep h = refl
 no-flow (f.Out k) h = refl
 
-pub no-ramp : (g : Function) → OneOf (0 ∷ 3 ∷ 4 ∷ 5 ∷ 6 ∷ 7 ∷ 8 ∷ 9 ∷ 10 ∷ 11 ∷ 12 ∷ 13 ∷ 14 ∷ []) (tag g) → false ≡ isRamp g
+-- all but INC and DEC
+abbrev pub rampless : List ℕ
+rampless = 0 ∷ 3 ∷ 4 ∷ 5 ∷ 6 ∷ 7 ∷ 8 ∷ 9 ∷ 10 ∷ 11 ∷ 12 ∷ 13 ∷ 14 ∷ []
+
+pub no-ramp : (g : Function) → OneOf rampless (tag g) → false ≡ isRamp g
 no-ramp f.Rat h = refl
-no-ramp f.Inc h = absurd (miss (0 ∷ 3 ∷ 4 ∷ 5 ∷ 6 ∷ 7 ∷ 8 ∷ 9 ∷ 10 ∷ 11 ∷ 12 ∷ 13 ∷ 14 ∷ []) 1 tt h)
-no-ramp f.Dec h = absurd (miss (0 ∷ 3 ∷ 4 ∷ 5 ∷ 6 ∷ 7 ∷ 8 ∷ 9 ∷ 10 ∷ 11 ∷ 12 ∷ 13 ∷ 14 ∷ []) 2 tt h)
+no-ramp f.Inc h = absurd (miss rampless 1 tt h)
+no-ramp f.Dec h = absurd (miss rampless 2 tt h)
 no-ramp f.Stp h = refl
 no-ramp (f.Jmp k) h = refl
 no-ramp (f.Lop k) h = refl
@@ -65,7 +78,11 @@ no-ramp f.Evr h = refl
 no-ramp f.Bep h = refl
 no-ramp (f.Out k) h = refl
 
-pub no-wait : (g : Function) → OneOf (0 ∷ 1 ∷ 2 ∷ 3 ∷ 4 ∷ 5 ∷ 6 ∷ 7 ∷ 9 ∷ 10 ∷ 11 ∷ 12 ∷ 13 ∷ 14 ∷ []) (tag g) → false ≡ waits g
+-- all but PAS in seconds
+abbrev pub waitless : List ℕ
+waitless = 0 ∷ 1 ∷ 2 ∷ 3 ∷ 4 ∷ 5 ∷ 6 ∷ 7 ∷ 9 ∷ 10 ∷ 11 ∷ 12 ∷ 13 ∷ 14 ∷ []
+
+pub no-wait : (g : Function) → OneOf waitless (tag g) → false ≡ waits g
 no-wait f.Rat h = refl
 no-wait f.Inc h = refl
 no-wait f.Dec h = refl
@@ -74,7 +91,7 @@ no-wait (f.Jmp k) h = refl
 no-wait (f.Lop k) h = refl
 no-wait f.Lps h = refl
 no-wait f.Lpe h = refl
-no-wait (f.Pas k) h = absurd (miss (0 ∷ 1 ∷ 2 ∷ 3 ∷ 4 ∷ 5 ∷ 6 ∷ 7 ∷ 9 ∷ 10 ∷ 11 ∷ 12 ∷ 13 ∷ 14 ∷ []) 8 tt h)
+no-wait (f.Pas k) h = absurd (miss waitless 8 tt h)
 no-wait (f.Tenths k) h = refl
 no-wait (f.If k) h = refl
 no-wait (f.Evn k) h = refl
@@ -82,10 +99,14 @@ no-wait f.Evr h = refl
 no-wait f.Bep h = refl
 no-wait (f.Out k) h = refl
 
-pub no-rate : (p : Phase) (g : Function) → OneOf (3 ∷ 4 ∷ 5 ∷ 6 ∷ 7 ∷ 8 ∷ 9 ∷ 10 ∷ 11 ∷ 12 ∷ 13 ∷ 14 ∷ []) (tag g) → NotApplicable ≡ storedBy p g
-no-rate p f.Rat h = absurd (miss (3 ∷ 4 ∷ 5 ∷ 6 ∷ 7 ∷ 8 ∷ 9 ∷ 10 ∷ 11 ∷ 12 ∷ 13 ∷ 14 ∷ []) 0 tt h)
-no-rate p f.Inc h = absurd (miss (3 ∷ 4 ∷ 5 ∷ 6 ∷ 7 ∷ 8 ∷ 9 ∷ 10 ∷ 11 ∷ 12 ∷ 13 ∷ 14 ∷ []) 1 tt h)
-no-rate p f.Dec h = absurd (miss (3 ∷ 4 ∷ 5 ∷ 6 ∷ 7 ∷ 8 ∷ 9 ∷ 10 ∷ 11 ∷ 12 ∷ 13 ∷ 14 ∷ []) 2 tt h)
+-- all but RAT, INC and DEC
+abbrev pub rateless : List ℕ
+rateless = 3 ∷ 4 ∷ 5 ∷ 6 ∷ 7 ∷ 8 ∷ 9 ∷ 10 ∷ 11 ∷ 12 ∷ 13 ∷ 14 ∷ []
+
+pub no-rate : (p : Phase) (g : Function) → OneOf rateless (tag g) → NotApplicable ≡ storedBy p g
+no-rate p f.Rat h = absurd (miss rateless 0 tt h)
+no-rate p f.Inc h = absurd (miss rateless 1 tt h)
+no-rate p f.Dec h = absurd (miss rateless 2 tt h)
 no-rate p f.Stp h = refl
 no-rate p (f.Jmp k) h = refl
 no-rate p (f.Lop k) h = refl

@@ -50,7 +50,9 @@ module _ {count : ℕ} (p : Pump) (full : phaseCount p ≡ count) (few : count �
   counted :
       (m : Moved)
       → m ≡ tickOf core here
-      → _≡_ {A = Ticked} (record { pump = withCore p (m .core); infused = a + m .infused; withdrawn = b + m .withdrawn; sound = true }) (ticked (i + 1) p)
+      → _≡_ {A = Ticked}
+      (record { pump = withCore p (m .core); infused = a + m .infused; withdrawn = b + m .withdrawn; sound = true })
+      (ticked (i + 1) p)
   unfolding ticked
   counted m k =
       ap (withTick (record { pump = withCore p core; infused = a; withdrawn = b; sound = true })) (sym (called m k))
@@ -89,7 +91,10 @@ still-tick : (p : Pump) → soundPump p ≡ false → tickCall p ≡ refused p U
 unfolding tickCall
 still-tick p e = rw e refl
 
-pub ran-still : (p : Pump) (n : ℕ) → soundPump p ≡ false → _≡_ {A = Ticked} (record { pump = p; infused = 0; withdrawn = 0; sound = false }) (ticked n p)
+pub ran-still :
+    (p : Pump) (n : ℕ)
+    → soundPump p ≡ false
+    → _≡_ {A = Ticked} (record { pump = p; infused = 0; withdrawn = 0; sound = false }) (ticked n p)
 unfolding ticked
 ran-still p zero e = ap (λ (t : Bool). record { pump = p; infused = 0; withdrawn = 0; sound = t }) (sym e)
 ran-still p (suc n) e =

@@ -1,6 +1,6 @@
--- Condition 3: what is claimed of a visit, a step, an event and the open loops, and the record, a field for each sentence, of the state after
--- some calls and of their events. What is observed is defined over events alone, in specs/Observations.antt. The theorem is condition3
--- (proofs/Theorem.antt), for any number of phases from 1 to 99.
+-- Condition 3: what is claimed of a visit, a step, an event and the open loops, and the record, a field for each sentence, of the state
+-- after some calls and of their events. What is observed is defined over events alone, in specs/Observations.antt. The theorem is
+-- condition3 (proofs/Theorem.antt), for any number of phases from 1 to 99.
 use Prim.Native.Nat.{ℕ, _+_, _*_, _≤_, _<_}
 use mathlib.Core.Path.{_≡_}
 use mathlib.Core.Bool.{true, false}

@@ -23,7 +23,6 @@ pub fn all() {
     infused();
     withdrawn();
     rates();
-    rates_in_a_visit();
     traps();
 }
 
@@ -100,11 +99,6 @@ fn rates() {
         base,
         with_rate(base, current_rate(9_999_001)),
     );
-}
-
-// In a visit the rate must be usable too: in microlitres an hour these are.
-fn rates_in_a_visit() {
-    let base = states::visiting();
 }
 
 fn current_rate(thousandths: u32) -> Rate {

@@ -53,11 +53,12 @@ loop-again c =
     let loop-at = after-at .before .before .before .before in
     ⊎-elim
     (λ w.
-        feeding-as (w .6) (w .7) (w .8)
-        (feeding-act (loop-at .loop .inv) (omega arith) _ (after-at .after .ensures) (w .2 .ensures .0) (w .2 .ensures .1)))
+    feeding-as (w .6) (w .7) (w .8)
+    (feeding-act (loop-at .loop .inv) (omega arith) _ (after-at .after .ensures) (w .2 .ensures .0) (w .2 .ensures .1)))
     (λ w.
-        feeding-as (w .1) (w .2) (w .3)
-        (feeding-wait (loop-at .loop .inv) (omega arith) _ (after-at .after .ensures) (sym (c .before .is-deed .ensures) ∙ w .0 .left) (omega arith)))
+    feeding-as (w .1) (w .2) (w .3)
+    (feeding-wait (loop-at .loop .inv) (omega arith) _ (after-at .after .ensures)
+    (sym (c .before .is-deed .ensures) ∙ w .0 .left) (omega arith)))
     (c .if2 .came)
 
 same-length-2 : tie.Need-same-length-2 Inv-loop μ-loop

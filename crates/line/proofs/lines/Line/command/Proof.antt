@@ -38,8 +38,8 @@ command-of-requires c κs = search needs
 returns-2 : tie.Need-returns-2
 returns-2 c =
     command-kept (c .before .before .before .before .before .before .args .self) _
-    (simp length-map at (c .before .before .before .before .before .before .good .0 .1 .1 .0 .1 .0 .1)) (c .before .before .before .held .ensures)
-    _ _ (c .before .before .before .before .before .if1 .left)
+    (simp length-map at (c .before .before .before .before .before .before .good .0 .1 .1 .0 .1 .0 .1))
+    (c .before .before .before .held .ensures) _ _ (c .before .before .before .before .before .if1 .left)
     (c .before .unaddressed .ensures) (c .command-of .ensures)
 
 pub command-spec : {M : Type 1} → statement M

@@ -1,10 +1,9 @@
 -- The answer to a byte: none, or one with STX and ETX that the buffer holds.
 -- Assumes nothing.
-use Prim.Native.Nat.{ℕ, _+_, _-_, _≤_, _<_}
-use mathlib.Core.Path.{_≡_, refl, sym, ap, _∙_}
+use Prim.Native.Nat.{ℕ, _-_, _≤_}
+use mathlib.Core.Path.{_≡_, refl}
 use mathlib.Core.Logic.{_⊎_, inl, inr, ⊎-elim}
 use mathlib.Core.Bool.{Bool, true, false}
-use mathlib.Core.List.{List}
 use native.Mathlib.Omega.{arith}
 use lib.ListN.{length, length-append}
 use Rattle.base.specs.If.{if_then_else_}
@@ -21,7 +20,7 @@ use Rattle.pump.specs.Reports.{refused, reported}
 use Rattle.pump.specs.declared.holder.Pump.{Pump}
 use Rattle.pump.specs.declared.reports.Report.{Report}
 use Rattle.pump.specs.declared.reports.Refusal.the-variants.{Unsound}
-use Rattle.bench.specs.Rigs.{zeros, reportOn}
+use Rattle.bench.specs.Rigs.{zeros}
 
 -- the lengths that an answer can have
 abbrev pub Sized : ℕ → Type 0

@@ -1,7 +1,7 @@
 -- Where the input stands, by the place that was matched and what was called there.
 -- Assumes nothing.
 use Prim.Native.Nat.{ℕ}
-use mathlib.Core.Path.{_≡_, sym, ap, _∙_}
+use mathlib.Core.Path.{_≡_, sym}
 use mathlib.Core.Bool.{Bool, true, false}
 use borrow.Author.Tests.{eq-eqb, ne-eqb}
 use Rattle.bench.specs.Numbers.{ticksAsked, levelAsked}
@@ -10,8 +10,7 @@ use Rattle.bench.specs.Places.{lineEnd, inputEnd, returned, returnedAct,
 use Rattle.bench.specs.declared.places.Act.{Act}
 use Rattle.bench.specs.declared.places.Act.the-variants.{Wait, Send, Finish}
 use Rattle.bench.specs.declared.places.Place.{Place}
-use Rattle.bench.specs.declared.places.Place.the-variants.{Start, Text, Tick, Ticks, Edge, Pin, Level, Returned, Bad}
-use Rattle.bench.specs.declared.places.Step.{Step}
+use Rattle.bench.specs.declared.places.Place.the-variants.{Start, Text, Tick, Ticks, Edge, Pin, Level, Returned}
 
 module _ (p : Place) where
   -- ---- the line's end and the input's

@@ -18,7 +18,7 @@ use Rattle.answer.proofs.Theorems.{length-kept}
 use Rattle.line.specs.Lines.{afterByte}
 use Rattle.engine.specs.Edges.{pinTwo, pinFour, pinSix}
 use Rattle.engine.specs.declared.state.Core.{Core}
-use Rattle.pump.specs.Calls.{ticked, tickCall, edged, levelled, pinCall, received, receivedBuffer, byteReport, byteBuffer}
+use Rattle.pump.specs.Calls.{ticked, edged, levelled, pinCall, received, receivedBuffer, byteReport, byteBuffer}
 use Rattle.pump.specs.Holder.{withCore, withLine, soundPump}
 use Rattle.pump.specs.Lines.{Said, quiet, saying, statusNow, reportOf, bufferOf, afterLine}
 use Rattle.pump.specs.Reports.{reported}

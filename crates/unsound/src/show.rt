@@ -23,16 +23,16 @@ pub fn broken(name: &[u8], base: Pump, pump: Pump) {
     }
     verdict(all);
     if !still(pump) {
-        put(b" MOVED BY MANY TICKS");
+        put(b" TAKEN OR MOVED BY MANY TICKS");
     }
     put(b"\n");
 }
 
-// Many ticks at a time leave it as it is, too.
+// Many ticks at a time are not taken either, and leave it as it is.
 fn still(pump: Pump) -> bool {
     let ran = many::ticks(pump, 3);
     let after = ran.pump;
-    (ran.infused == 0) & (ran.withdrawn == 0) & same(pump, after)
+    (!ran.sound) & (ran.infused == 0) & (ran.withdrawn == 0) & same(pump, after)
 }
 
 // A sound state: four calls take it, and two refuse it for what they were handed. What the calls altered is listed, which shows that

@@ -2,12 +2,13 @@
 -- Assumes nothing.
 use Prim.Native.Nat.{ℕ, _≤_, _<_}
 use mathlib.Core.Path.{_≡_, sym, ap, _∙_}
+use mathlib.Core.Logic.{_⊎_, inl, inr}
 use mathlib.Core.Bool.{Bool, true, false}
 use mathlib.Core.List.{List}
 use native.Mathlib.Omega.{arith}
 use lib.Dec.{eqb}
 use lib.ListN.{length}
-use borrow.Author.Tests.{lt-ltb, le-ltb, eq-eqb, ne-eqb}
+use borrow.Author.Tests.{lt-ltb, le-ltb, ne-eqb}
 use Rattle.answer.specs.Answers.{room}
 use Rattle.engine.specs.Edges.{pinTwo, pinFour, pinSix}
 use Rattle.base.specs.If.{if_then_else_}
@@ -74,22 +75,18 @@ module _ (p : Pump) (sound : Bool) (s : sound ≡ soundPump p) where
 
     -- ---- the pin
     module _ (pin level : ℕ) (r : Report) where
-      pub pin-levelled-2 : pin ≡ 2 → r ≡ levelled p pin level → r ≡ pinCall p pin level
+      pub pin-levelled : (pin ≡ 2) ⊎ (pin ≡ 4) ⊎ (pin ≡ 6) → r ≡ levelled p pin level → r ≡ pinCall p pin level
       unfolding pinCall
-      pin-levelled-2 h q = q ∙ sym (simp (sym s ∙ e, eq-eqb pin 2 h))
+      pin-levelled (inl h) q = q ∙ sym (simp (sym s ∙ e, h))
+      pin-levelled (inr (inl h)) q = q ∙ sym (simp (sym s ∙ e, h))
+      pin-levelled (inr (inr h)) q = q ∙ sym (simp (sym s ∙ e, h))
 
-      pub pin-levelled-4 : pin ≡ 4 → r ≡ levelled p pin level → r ≡ pinCall p pin level
+      pub no-pin : ((pin ≡ 2) ⊎ (pin ≡ 4) ⊎ (pin ≡ 6) → ⊥) → r ≡ refused p NoPin → r ≡ pinCall p pin level
       unfolding pinCall
-      pin-levelled-4 h q = q ∙ sym (simp (sym s ∙ e, h))
-
-      pub pin-levelled-6 : pin ≡ 6 → r ≡ levelled p pin level → r ≡ pinCall p pin level
-      unfolding pinCall
-      pin-levelled-6 h q = q ∙ sym (simp (sym s ∙ e, h))
-
-      pub no-pin :
-          (pin ≡ 2 → ⊥) → (pin ≡ 4 → ⊥) → (pin ≡ 6 → ⊥) → r ≡ refused p NoPin → r ≡ pinCall p pin level
-      unfolding pinCall
-      no-pin a b c q = q ∙ sym (simp (sym s ∙ e, ne-eqb pin 2 a, ne-eqb pin 4 b, ne-eqb pin 6 c))
+      no-pin n q =
+          q
+          ∙ sym
+          (simp (sym s ∙ e, ne-eqb pin 2 (λ k. n (inl k)), ne-eqb pin 4 (λ k. n (inr (inl k))), ne-eqb pin 6 (λ k. n (inr (inr k)))))
 
     -- ---- the byte
     module _ (b : ℕ) (buffer : List ℕ) where
@@ -123,7 +120,7 @@ module _ (p : Pump) (sound : Bool) (s : sound ≡ soundPump p) where
   unfolding byteBuffer
   byte-kept e b buffer = sym (simp (sym s ∙ e))
 
-pub ruleset pins = (pin-levelled-2, pin-levelled-4, pin-levelled-6, no-pin, pin-unsound)
+pub ruleset pins = (pin-levelled, no-pin, pin-unsound)
 
 pub ruleset bytes = (byte-short, byte-short-buffer, byte-received, byte-written, byte-unsound, byte-kept)
 

@@ -1,6 +1,6 @@
 -- The calls, refusals included: for each the new state, the whole report and, for a byte, the whole buffer.   (01, Calls)
 use Prim.Native.Nat.{ℕ}
-use mathlib.Core.Bool.{Bool}
+use mathlib.Core.Bool.{Bool, _||_}
 use mathlib.Core.List.{List}
 use lib.Dec.{ltb, eqb}
 use lib.ListN.{length}
@@ -25,6 +25,9 @@ unfoldable pub tickCall : Pump → Report
 tickCall p = if soundPump p then ticked p else refused p Unsound
 
 -- ---- a pin level: 4, then 2 where the pin is not 2, 4 or 6, then 3 where the level is not 0 or 1
+abbrev pub isPin : ℕ → Bool
+isPin pin = eqb pin 2 || eqb pin 4 || eqb pin 6
+
 unfoldable pub edged : Pump → ℕ → Bool → Pump
 edged p pin high =
     if eqb pin 2
@@ -38,16 +41,7 @@ levelled p pin level = if ltb 1 level then refused p NoLevel else reported (edge
 
 unfoldable pub pinCall : Pump → ℕ → ℕ → Report
 pinCall p pin level =
-    if soundPump p
-    then
-    if eqb pin 2
-    then levelled p pin level
-    else if eqb pin 4
-    then levelled p pin level
-    else if eqb pin 6
-    then levelled p pin level
-    else refused p NoPin
-    else refused p Unsound
+    if soundPump p then if isPin pin then levelled p pin level else refused p NoPin else refused p Unsound
 
 -- ---- a byte: 4, then 1 where the buffer has under 24 bytes; what is refused leaves the buffer as it was
 abbrev pub arrivedReport : Pump → Arrived → List ℕ → Report

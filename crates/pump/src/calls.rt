@@ -33,9 +33,7 @@ impl Pump {
     {
         if self.sound() {
             match pin {
-                2 => return self.levelled(pin, level),
-                4 => return self.levelled(pin, level),
-                6 => return self.levelled(pin, level),
+                2 | 4 | 6 => return self.levelled(pin, level),
                 _ => return self.refused(Refusal::NoPin),
             }
         }

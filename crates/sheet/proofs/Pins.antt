@@ -19,7 +19,7 @@ use Rattle.engine.specs.declared.state.Trap.{Trap}
 use Rattle.engine.specs.declared.state.Trap.the-variants.{NoTrap, Armed}
 use Rattle.engine.specs.declared.state.Work.{Work}
 use Rattle.engine.specs.declared.state.Work.the-variants.{Entering, Visiting, Pausing, Waiting}
-use Rattle.pump.specs.Calls.{edged, levelled, pinCall}
+use Rattle.pump.specs.Calls.{isPin, edged, levelled, pinCall}
 use Rattle.pump.specs.Holder.{withCore, soundPump}
 use Rattle.pump.specs.Reports.{refused, reported}
 use Rattle.pump.specs.declared.holder.Pump.{Pump}
@@ -122,23 +122,9 @@ module _ (p : Pump) where
 
   pub pin-still : (pin level : ℕ) → Still p (pinCall p pin level)
   unfolding pinCall
-  pin-still pin level = go (soundPump p) (eqb pin 2) (eqb pin 4) (eqb pin 6)
+  pin-still pin level = go (soundPump p) (isPin pin)
     where
-      go :
-          (s t u v : Bool)
-          → Still p
-          (if s
-          then
-          if t
-          then levelled p pin level
-          else if u
-          then levelled p pin level
-          else if v
-          then levelled p pin level
-          else refused p NoPin
-          else refused p Unsound)
-      go true true u v = levelled-still pin level
-      go true false true v = levelled-still pin level
-      go true false false true = levelled-still pin level
-      go true false false false = refused-still NoPin
-      go false t u v = refused-still Unsound
+      go : (s t : Bool) → Still p (if s then if t then levelled p pin level else refused p NoPin else refused p Unsound)
+      go true true = levelled-still pin level
+      go true false = refused-still NoPin
+      go false t = refused-still Unsound

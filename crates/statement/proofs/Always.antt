@@ -13,13 +13,13 @@ use lib.Dec.{ltb, eqb}
 use lib.ListN.{length}
 use Rattle.base.specs.If.{if_then_else_}
 use Rattle.engine.specs.Edges.{pinTwo, pinFour, pinSix}
-use Rattle.pump.specs.Calls.{ticked, tickCall, edged, levelled, pinCall}
+use Rattle.pump.specs.Calls.{ticked, tickCall, isPin, edged, levelled, pinCall}
 use Rattle.pump.specs.Holder.{phaseCount, modelPhases, withCore, freshPump, soundPump}
 use Rattle.pump.specs.Reports.{numberOf, refused, reported}
 use Rattle.pump.specs.declared.holder.Pump.{Pump}
 use Rattle.pump.specs.declared.reports.Refusal.the-variants.{Accepted, ShortBuffer, NoPin, NoLevel, Unsound}
 use Rattle.pump.specs.declared.reports.Report.{Report}
-use Rattle.statement.specs.Histories.{Call, byteIn, pinAt, tickIn, reportAfter, after, Model, Whole, isPin, refusalOf, refusalWhole}
+use Rattle.statement.specs.Histories.{Call, byteIn, pinAt, tickIn, reportAfter, after, Model, Whole, refusalOf, refusalWhole}
 use Rattle.statement.proofs.Bytes.{byte-stays-whole}
 use Rattle.statement.proofs.Counting.{byte-count}
 use Rattle.statement.proofs.Refused.{refused-as-listed}
@@ -76,29 +76,14 @@ module _ (p : Pump) where
 
   pin-beside : (pin level : ℕ) → Beside p (pinCall p pin level .pump)
   unfolding pinCall
-  pin-beside pin level = go (soundPump p) (eqb pin 2) (eqb pin 4) (eqb pin 6)
+  pin-beside pin level = go (soundPump p) (isPin pin)
     where
-      done : Beside p (levelled p pin level .pump)
-      done = levelled-beside pin level
-
       go :
-          (s t u v : Bool)
-          → Beside p
-          (if_then_else_ {A = Report} s
-          (if t
-          then levelled p pin level
-          else if u
-          then levelled p pin level
-          else if v
-          then levelled p pin level
-          else refused p NoPin)
-          (refused p Unsound)
-          .pump)
-      go true true u v = done
-      go true false true v = done
-      go true false false true = done
-      go true false false false = same
-      go false t u v = same
+          (s t : Bool)
+          → Beside p (if_then_else_ {A = Report} s (if t then levelled p pin level else refused p NoPin) (refused p Unsound) .pump)
+      go true true = levelled-beside pin level
+      go true false = same
+      go false t = same
 
 -- ---- every call keeps the number of phases, and a whole state whole
 pub call-phases : (p : Pump) (c : Call) → phaseCount (reportAfter p c .pump) ≡ phaseCount p

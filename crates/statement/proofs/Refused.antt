@@ -2,7 +2,7 @@
 -- Assumes nothing.
 use Prim.Native.Nat.{ℕ}
 use mathlib.Core.Path.{_≡_, refl, ap}
-use mathlib.Core.Bool.{Bool, true, false, _||_}
+use mathlib.Core.Bool.{Bool, true, false}
 use mathlib.Core.List.{List}
 use lib.Dec.{ltb, eqb}
 use lib.ListN.{length}
@@ -10,7 +10,8 @@ use Rattle.base.specs.If.{if_then_else_}
 use Rattle.answer.specs.Answers.{room}
 use Rattle.line.specs.Lines.{afterByte}
 use Rattle.line.specs.declared.lines.Arrived.{Arrived}
-use Rattle.pump.specs.Calls.{ticked, tickCall, edged, levelled, pinCall, arrivedReport, received, receivedBuffer, byteReport, byteBuffer}
+use Rattle.pump.specs.Calls.{ticked, tickCall, isPin, edged, levelled, pinCall}
+use Rattle.pump.specs.Calls.{arrivedReport, received, receivedBuffer, byteReport, byteBuffer}
 use Rattle.pump.specs.Holder.{withLine, soundPump}
 use Rattle.pump.specs.Lines.{Said, quiet, saying, reportOf, afterLine}
 use Rattle.pump.specs.Reports.{refused, reported}
@@ -62,28 +63,12 @@ levelled-outcome p pin level before = go (ltb 1 level)
 
 pin-outcome : (p : Pump) (pin level : ℕ) (before : List ℕ) → Outcome p (pinCall p pin level) before before
 unfolding pinCall
-pin-outcome p pin level before = go (soundPump p) (eqb pin 2) (eqb pin 4) (eqb pin 6)
+pin-outcome p pin level before = go (soundPump p) (isPin pin)
   where
-    go :
-        (s t u v : Bool)
-        → Outcome p
-        (if s
-        then
-        if t
-        then levelled p pin level
-        else if u
-        then levelled p pin level
-        else if v
-        then levelled p pin level
-        else refused p NoPin
-        else refused p Unsound)
-        before
-        before
-    go true true u v = levelled-outcome p pin level before
-    go true false true v = levelled-outcome p pin level before
-    go true false false true = levelled-outcome p pin level before
-    go true false false false = turned-down NoPin refl refl
-    go false t u v = turned-down Unsound refl refl
+    go : (s t : Bool) → Outcome p (if s then if t then levelled p pin level else refused p NoPin else refused p Unsound) before before
+    go true true = levelled-outcome p pin level before
+    go true false = turned-down NoPin refl refl
+    go false t = turned-down Unsound refl refl
 
 byte-outcome : (p : Pump) (b : ℕ) (buffer : List ℕ) → Outcome p (byteReport p b buffer) buffer (byteBuffer p b buffer)
 unfolding byteReport byteBuffer
@@ -147,26 +132,12 @@ refused-as-listed p (byteIn b buffer) = go (soundPump p) (ltb (length buffer) ro
     go true true = refl
     go true false = received-accepted p b buffer
     go false t = refl
-refused-as-listed p (pinAt pin level) = go (soundPump p) (eqb pin 2) (eqb pin 4) (eqb pin 6)
+refused-as-listed p (pinAt pin level) = go (soundPump p) (isPin pin)
   where
-    done : levelled p pin level .refusal ≡ (if ltb 1 level then NoLevel else Accepted)
-    done = levelled-refusal p pin level
-
     go :
-        (s t u v : Bool)
-        → if_then_else_ {A = Report} s
-        (if t
-        then levelled p pin level
-        else if u
-        then levelled p pin level
-        else if v
-        then levelled p pin level
-        else refused p NoPin)
-        (refused p Unsound)
-        .refusal
-        ≡ (if s then if t || u || v then if ltb 1 level then NoLevel else Accepted else NoPin else Unsound)
-    go true true u v = done
-    go true false true v = done
-    go true false false true = done
-    go true false false false = refl
-    go false t u v = refl
+        (s t : Bool)
+        → if_then_else_ {A = Report} s (if t then levelled p pin level else refused p NoPin) (refused p Unsound) .refusal
+        ≡ (if s then if t then if ltb 1 level then NoLevel else Accepted else NoPin else Unsound)
+    go true true = levelled-refusal p pin level
+    go true false = refl
+    go false t = refl

@@ -10,12 +10,13 @@ use lib.Dec.{ltb, eqb}
 use lib.ListN.{length}
 use borrow.Author.Tests.{ltb-true, ltb-false, lt-ltb, eqb-true, ne-eqb}
 use Rattle.base.proofs.Choices.{false-true}
+use Rattle.pump.specs.Calls.{isPin}
 use Rattle.pump.specs.Holder.{soundPump}
 use Rattle.pump.specs.declared.holder.Pump.{Pump}
 use Rattle.pump.specs.declared.reports.Refusal.{Refusal}
 use Rattle.pump.specs.declared.reports.Refusal.the-variants.{Accepted, ShortBuffer, NoPin, NoLevel, Unsound}
 use Rattle.statement.specs.Facts.{Sound}
-use Rattle.statement.specs.Histories.{Call, byteIn, pinAt, tickIn, isPin, refusalOf}
+use Rattle.statement.specs.Histories.{Call, byteIn, pinAt, tickIn, refusalOf}
 use Rattle.statement.specs.Outcomes.{Pin, RefusedAs, not-sound, short-buffer, no-such-pin, no-such-level}
 use Rattle.statement.proofs.Soundness.{sound-facts, sound-test}
 

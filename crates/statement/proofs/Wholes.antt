@@ -22,7 +22,7 @@ use Rattle.line.specs.Lines.{soundLine}
 use Rattle.line.proofs.Theorems.{empty-sound}
 use Rattle.program.specs.Phases.{powerUp, soundPhase}
 use Rattle.program.specs.declared.phases.Phase.{Phase}
-use Rattle.pump.specs.Calls.{tickCall, edged, levelled, pinCall, ticked}
+use Rattle.pump.specs.Calls.{tickCall, isPin, edged, levelled, pinCall, ticked}
 use Rattle.pump.specs.Holder.{phaseCount, stopPhase, phaseAt, withCore, freshPump, soundPhases, soundPump}
 use Rattle.pump.specs.Reports.{refused, reported}
 use Rattle.pump.specs.declared.holder.Pump.{Pump}
@@ -156,27 +156,11 @@ module _ (p : Pump) (h : phaseCount p ≤ 99) (e : soundPump p ≡ true) where
 
   pub pin-whole : (pin level : ℕ) → soundPump (pinCall p pin level .pump) ≡ true
   unfolding pinCall
-  pin-whole pin level = go (soundPump p) (eqb pin 2) (eqb pin 4) (eqb pin 6)
+  pin-whole pin level = go (soundPump p) (isPin pin)
     where
-      done : soundPump (levelled p pin level .pump) ≡ true
-      done = levelled-whole pin level
-
       go :
-          (s t u v : Bool)
-          → soundPump
-          (if_then_else_ {A = Report} s
-          (if t
-          then levelled p pin level
-          else if u
-          then levelled p pin level
-          else if v
-          then levelled p pin level
-          else refused p NoPin)
-          (refused p Unsound)
-          .pump)
-          ≡ true
-      go true true u v = done
-      go true false true v = done
-      go true false false true = done
-      go true false false false = e
-      go false t u v = e
+          (s t : Bool)
+          → soundPump (if_then_else_ {A = Report} s (if t then levelled p pin level else refused p NoPin) (refused p Unsound) .pump) ≡ true
+      go true true = levelled-whole pin level
+      go true false = e
+      go false t = e

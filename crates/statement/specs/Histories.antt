@@ -1,12 +1,12 @@
 -- Histories of calls: what one call reports, the state after many, and what a refusal leaves as it was.   (01, Calls)
 use Prim.Native.Nat.{ℕ, _≤_}
 use mathlib.Core.Path.{_≡_}
-use mathlib.Core.Bool.{Bool, true, _||_}
+use mathlib.Core.Bool.{true}
 use mathlib.Core.List.{List, [], _∷_}
-use lib.Dec.{ltb, eqb}
+use lib.Dec.{ltb}
 use lib.ListN.{length}
 use Rattle.base.specs.If.{if_then_else_}
-use Rattle.pump.specs.Calls.{tickCall, pinCall, byteReport, byteBuffer}
+use Rattle.pump.specs.Calls.{tickCall, isPin, pinCall, byteReport, byteBuffer}
 use Rattle.pump.specs.Holder.{phaseCount, soundPump}
 use Rattle.pump.specs.declared.holder.Pump.{Pump}
 use Rattle.pump.specs.declared.reports.Refusal.{Refusal}
@@ -67,10 +67,6 @@ pub record Untouched (p : Pump) (c : Call) : Type 0 where
 -- whatever is not accepted is refused in that way
 abbrev pub Alone : Pump → Call → Type 0
 Alone p c = (reportAfter p c .refusal ≡ Accepted → ⊥) → Untouched p c
-
--- pins are 2, 4 and 6
-abbrev pub isPin : ℕ → Bool
-isPin pin = eqb pin 2 || eqb pin 4 || eqb pin 6
 
 -- the table of refusals in its order: 4 (the state is not sound), then 1 (under 24 bytes); or 4, 2 (no such pin), 3 (no such level)
 abbrev pub refusalOf : Pump → Call → Refusal

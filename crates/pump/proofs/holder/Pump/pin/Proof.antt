@@ -21,37 +21,17 @@ levelled-requires c κs =
 returns : tie.Need-returns
 returns c = search pins
 
-levelled-requires-2 : tie.Need-levelled-requires-2
-levelled-requires-2 c κs =
-    let first = c .before .before .before in
-    let full = simp length-map at (first .good .0 .1 .1 .0 .1 .0 .1) in
-    let few : length (first .args .self .phases) ≤ 99 = omega (arith, full) in
-    search handy-now
+refused-requires : tie.Need-refused-requires
+refused-requires c κs = search needs
 
 returns-2 : tie.Need-returns-2
 returns-2 c = search pins
 
-levelled-requires-3 : tie.Need-levelled-requires-3
-levelled-requires-3 c κs =
-    let first = c .before .before .before in
-    let full = simp length-map at (first .good .0 .1 .1 .0 .1 .0 .1) in
-    let few : length (first .args .self .phases) ≤ 99 = omega (arith, full) in
-    search handy-now
-
-returns-3 : tie.Need-returns-3
-returns-3 c = search pins
-
-refused-requires : tie.Need-refused-requires
-refused-requires c κs = search needs
-
-returns-4 : tie.Need-returns-4
-returns-4 c = search pins
-
 refused-requires-2 : tie.Need-refused-requires-2
 refused-requires-2 c κs = search needs
 
-returns-5 : tie.Need-returns-5
-returns-5 c = search pins
+returns-3 : tie.Need-returns-3
+returns-3 c = search pins
 
 pub pin-spec : {M : Type 1} → statement M
 pin-spec =
@@ -60,11 +40,7 @@ pin-spec =
     sound-requires
     levelled-requires
     returns
-    levelled-requires-2
-    returns-2
-    levelled-requires-3
-    returns-3
     refused-requires
-    returns-4
+    returns-2
     refused-requires-2
-    returns-5)
+    returns-3)

@@ -12,6 +12,12 @@ impl Pump {
         if !self.is_sound() {
             return self.refused(UNSOUND);
         }
+        self.tick_untested()
+    }
+
+    /// A tick of a state that the caller knows to be sound; it is sound afterwards too.
+    #[inline]
+    pub fn tick_untested(&mut self) -> Report {
         let mut report = self.quiet();
         if self.operating() && !self.trigger_wait {
             if let Some(visit) = self.visit {

@@ -1,4 +1,4 @@
-//! Ticks of the plain engine against the clock, from the same five tables as the Rattle crate `pace`.
+//! Ticks of the plain engine against the clock, from the same five tables as the Rattle crate that tests/speed names.
 
 use twin::{Direction, Function, Mode, Phase, Pump, RateUnit};
 

@@ -7,15 +7,15 @@
 #include <stdlib.h>
 #include <string.h>
 
-/* crates/probe/src/lib.rt. Nothing checks these against it: a slice is a pointer and then a length. */
-uint64_t probe_read(const uint8_t *s, size_t n);
-uint32_t probe_read_one(const uint8_t *s, size_t n);
-uint32_t probe_read_two(const uint8_t *s, size_t n);
-uint32_t probe_read_tenths(const uint8_t *s, size_t n);
-uint32_t probe_is_writable(uint32_t x);
-size_t probe_print(uint32_t x, uint8_t *out, size_t n);
-size_t probe_print_two(uint8_t n, uint8_t *out, size_t size);
-size_t probe_print_tenths(uint8_t n, uint8_t *out, size_t size);
+/* crates/test_numbers/src/lib.rt. Nothing checks these against it: a slice is a pointer and then a length. */
+uint64_t test_read(const uint8_t *s, size_t n);
+uint32_t test_read_one(const uint8_t *s, size_t n);
+uint32_t test_read_two(const uint8_t *s, size_t n);
+uint32_t test_read_tenths(const uint8_t *s, size_t n);
+uint32_t test_is_writable(uint32_t x);
+size_t test_print(uint32_t x, uint8_t *out, size_t n);
+size_t test_print_two(uint8_t n, uint8_t *out, size_t size);
+size_t test_print_tenths(uint8_t n, uint8_t *out, size_t size);
 
 #define DIGITS "0123456789"
 #define NO_NUMBER UINT64_C(4294967296)
@@ -126,12 +126,12 @@ static uint32_t rule_writable(uint32_t x)
 
 typedef uint64_t reader(const uint8_t *s, size_t n);
 
-static uint64_t proved_one(const uint8_t *s, size_t n) { return probe_read_one(s, n); }
-static uint64_t proved_two(const uint8_t *s, size_t n) { return probe_read_two(s, n); }
-static uint64_t proved_tenths(const uint8_t *s, size_t n) { return probe_read_tenths(s, n); }
+static uint64_t proved_one(const uint8_t *s, size_t n) { return test_read_one(s, n); }
+static uint64_t proved_two(const uint8_t *s, size_t n) { return test_read_two(s, n); }
+static uint64_t proved_tenths(const uint8_t *s, size_t n) { return test_read_tenths(s, n); }
 
 static const struct { const char *name; reader *proved; reader *rule; } readers[] = {
-    {"read", probe_read, rule_read},
+    {"read", test_read, rule_read},
     {"read_two", proved_two, rule_read_two},
     {"read_one", proved_one, rule_read_one},
     {"read_tenths", proved_tenths, rule_read_tenths},
@@ -204,8 +204,8 @@ static void compare_reading(const char *name, const uint8_t *alphabet, size_t si
 
 typedef size_t printer(uint32_t x, uint8_t *out, size_t size);
 
-static size_t proved_print_two(uint32_t x, uint8_t *out, size_t size) { return probe_print_two((uint8_t)x, out, size); }
-static size_t proved_print_tenths(uint32_t x, uint8_t *out, size_t size) { return probe_print_tenths((uint8_t)x, out, size); }
+static size_t proved_print_two(uint32_t x, uint8_t *out, size_t size) { return test_print_two((uint8_t)x, out, size); }
+static size_t proved_print_tenths(uint32_t x, uint8_t *out, size_t size) { return test_print_tenths((uint8_t)x, out, size); }
 
 static void compare_print(const char *name, printer *print, uint32_t x, const char *expected, size_t size)
 {
@@ -242,9 +242,9 @@ static void compare_value(uint32_t x)
 {
     char text[6];
     rule_print(x, text);
-    compare_print("print", probe_print, x, text, 5);
+    compare_print("print", test_print, x, text, 5);
     expect_number("print, read back,", x, rule_read((const uint8_t *)text, 5), rule_cut(x));
-    expect_number("is_writable", x, probe_is_writable(x), rule_writable(x));
+    expect_number("is_writable", x, test_is_writable(x), rule_writable(x));
 }
 
 static void count_values(uint64_t count, const char *which)
@@ -298,7 +298,7 @@ static void compare_buffers(void)
         for (size_t size = 0; size <= ROOM; size++, count++) {
             char text[6];
             rule_print(values[k], text);
-            compare_print("print", probe_print, values[k], text, size);
+            compare_print("print", test_print, values[k], text, size);
         }
     printf("%-12s %10llu values and sizes of buffer\n", "print", (unsigned long long)count);
     compared += count;

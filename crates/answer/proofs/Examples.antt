@@ -1,4 +1,5 @@
 -- Answers as the document writes them, computed from the definitions: STX and ETX stand around each text.   (01, Line and answer)
+-- Assumes nothing.
 use Prim.Native.Nat.{ℕ}
 use Prim.Native.String.{String}
 use mathlib.Core.Path.{refl}
@@ -8,49 +9,52 @@ use Rattle.base.specs.Text.{text}
 use Rattle.decimal.specs.Print.{digit, printed, twoDigits, tenthsPrinted}
 use Rattle.drive.specs.declared.rates.RateUnit.the-variants.{Mh}
 use Rattle.drive.specs.declared.syringe.VolumeUnit.the-variants.{Microlitre}
-use Rattle.program.specs.declared.functions.Function.the-variants as f
-use Rattle.program.specs.declared.phases.Direction.the-variants.{Infuse}
-use Rattle.answer.specs.Answers.{bodyOf, answerOf}
-use Rattle.answer.specs.declared.statuses.Status.{Status}
-use Rattle.answer.specs.declared.statuses.Status.the-variants.{Stopped, Paused, TimedPause, TriggerWait, Infusing, Withdrawing}
-use Rattle.answer.specs.declared.statuses.Alarm.the-variants.{PowerUp, Program}
-use Rattle.answer.specs.declared.replies.Reply.{Reply}
-use Rattle.answer.specs.declared.replies.Reply.the-variants as r
+use Rattle.words.specs.declared.answers.Alarm.the-variants.{PowerUp, Program}
+use Rattle.words.specs.declared.answers.Reply.the-variants as r
+use Rattle.words.specs.declared.answers.Said.{Said}
+use Rattle.words.specs.declared.answers.Said.the-variants as said
+use Rattle.words.specs.declared.answers.Status.the-variants.{Stopped, Paused, TimedPause, TriggerWait, Infusing, Withdrawing}
+use Rattle.words.specs.declared.functions.Function.the-variants as f
+use Rattle.words.specs.declared.phases.Direction.the-variants.{Infuse}
+use Rattle.answer.specs.Answers.{framed, answerOf}
 
--- a status and a reply, and what stands between STX and ETX
+-- an address and what is said, and the bytes of the answer
 abbrev pub Row : Type 0
-Row = (Status × Reply) × List ℕ
+Row = (ℕ × Said) × List ℕ
 
-abbrev framed : String → List ℕ
-framed s = (2 ∷ []) ++ text s ++ (3 ∷ [])
+abbrev stxEtx : String → List ℕ
+stxEtx s = (2 ∷ []) ++ text s ++ (3 ∷ [])
 
 abbrev pub rows : List Row
 rows =
-    ((Stopped, r.Status), framed "00S")
-    ∷ ((Paused, r.Status), framed "00P")
-    ∷ ((TimedPause, r.Status), framed "00T")
-    ∷ ((TriggerWait, r.Status), framed "00U")
-    ∷ ((Infusing, r.Status), framed "00I")
-    ∷ ((Withdrawing, r.Status), framed "00W")
-    ∷ ((Stopped, r.Alarm PowerUp), framed "00A?R")
-    ∷ ((Infusing, r.Alarm Program), framed "00A?E")
-    ∷ ((Stopped, r.Malformed), framed "00S?")
-    ∷ ((Infusing, r.NotApplicable), framed "00I?NA")
-    ∷ ((Paused, r.OutOfRange), framed "00P?OOR")
-    ∷ ((Stopped, r.Number 10_000), framed "00S10.00")
-    ∷ ((Stopped, r.Rate 200_000 Mh), framed "00S200.0MH")
-    ∷ ((Stopped, r.Volume 1_000 Microlitre), framed "00S1.000UL")
-    ∷ ((Stopped, r.Direction Infuse), framed "00SINF")
-    ∷ ((Stopped, r.Phase 7), framed "00S07")
-    ∷ ((Stopped, r.Function (f.Jmp 5)), framed "00SJMP05")
-    ∷ ((Stopped, r.Function (f.Tenths 5)), framed "00SPAS0.5")
-    ∷ ((Stopped, r.Function (f.Pas 7)), framed "00SPAS07")
-    ∷ ((Stopped, r.Function (f.If 3)), framed "00SIF03")
-    ∷ ((Stopped, r.Function (f.Out 1)), framed "00SOUT1")
-    ∷ ((Stopped, r.Function f.Evr), framed "00SEVR")
-    ∷ ((Stopped, r.Totals 981 0 Microlitre), framed "00SI0.981W0.000UL")
+    ((0, said.Nothing), [])
+    ∷ ((0, said.Answer Stopped r.Status), stxEtx "00S")
+    ∷ ((0, said.Answer Paused r.Status), stxEtx "00P")
+    ∷ ((0, said.Answer TimedPause r.Status), stxEtx "00T")
+    ∷ ((0, said.Answer TriggerWait r.Status), stxEtx "00U")
+    ∷ ((0, said.Answer Infusing r.Status), stxEtx "00I")
+    ∷ ((0, said.Answer Withdrawing r.Status), stxEtx "00W")
+    ∷ ((0, said.Alarm PowerUp), stxEtx "00A?R")
+    ∷ ((0, said.Alarm Program), stxEtx "00A?E")
+    ∷ ((0, said.Answer Stopped r.Malformed), stxEtx "00S?")
+    ∷ ((0, said.Answer Infusing r.NotApplicable), stxEtx "00I?NA")
+    ∷ ((0, said.Answer Paused r.OutOfRange), stxEtx "00P?OOR")
+    ∷ ((0, said.Answer Stopped (r.Number 10_000)), stxEtx "00S10.00")
+    ∷ ((0, said.Answer Stopped (r.Rate 200_000 Mh)), stxEtx "00S200.0MH")
+    ∷ ((0, said.Answer Stopped (r.Volume 1_000 Microlitre)), stxEtx "00S1.000UL")
+    ∷ ((0, said.Answer Stopped (r.Direction Infuse)), stxEtx "00SINF")
+    ∷ ((0, said.Answer Stopped (r.Phase 7)), stxEtx "00S07")
+    ∷ ((0, said.Answer Stopped (r.Function (f.Jmp 5))), stxEtx "00SJMP05")
+    ∷ ((0, said.Answer Stopped (r.Function (f.Tenths 5))), stxEtx "00SPAS0.5")
+    ∷ ((0, said.Answer Stopped (r.Function (f.Pas 7))), stxEtx "00SPAS07")
+    ∷ ((0, said.Answer Stopped (r.Function (f.If 3))), stxEtx "00SIF03")
+    ∷ ((0, said.Answer Stopped (r.Function (f.Out 1))), stxEtx "00SOUT1")
+    ∷ ((0, said.Answer Stopped (r.Function f.Evr)), stxEtx "00SEVR")
+    ∷ ((0, said.Answer Stopped (r.Totals 981 0 Microlitre)), stxEtx "00SI0.981W0.000UL")
+    ∷ ((7, said.Answer Stopped r.Status), stxEtx "07S")
+    ∷ ((99, said.Alarm Program), stxEtx "99A?E")
     ∷ []
 
-pub rows-answered : Gives (λ (of : Status × Reply). answerOf (of .0) (of .1)) rows
-unfolding digit printed twoDigits tenthsPrinted bodyOf answerOf
+pub rows-answered : Gives (λ (of : ℕ × Said). answerOf (of .0) (of .1)) rows
+unfolding digit printed twoDigits tenthsPrinted framed
 rows-answered = refl

@@ -1,4 +1,4 @@
 -- The pump's answers, letter by letter.
-pub mod Statuses
+pub mod Letters
 pub mod Replies
 pub mod Answers

@@ -1,18 +1,12 @@
-// The pump's answers (document 01, Line and answer, second half; the queries of Commands): a status and a reply to bytes in a
-// buffer that the caller lends. It does not know who asked, nor in which state.
+// The pump's answers as bytes (document 01, Line and answer, second half; the queries of Commands), in a buffer that the caller
+// lends. It does not know who asked, nor in which state.
 //
-//   statuses   the status letters and the alarms
-//   replies    what an answer says beside the status
-//   writing    the reply's bytes
-//   frame      the whole answer: STX, 00, the status letter, the reply's bytes, ETX
+//   letters   the letters of the statuses and of the alarms
+//   writing   the bytes behind the address: numbers, units, names, and what each answer is made of
+//   frame     the whole answer: STX, the address, the bytes behind it, ETX
 mod frame;
-mod replies;
-mod statuses;
+mod letters;
 mod writing;
 
 pub use frame::ROOM;
-pub use frame::answer;
-pub use replies::Reply;
-pub use statuses::Alarm;
-pub use statuses::Status;
-pub use writing::body;
+pub use frame::write;

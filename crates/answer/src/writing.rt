@@ -1,50 +1,40 @@
-// The bytes of an answer between STX and ETX. Each function writes from `at` on and answers the next place; the callers see to the
-// room: 20 bytes hold every body, 16 every reply's data, 6 a function.
+// The bytes of an answer behind its address. Each function writes from `at` on and answers the next place; the callers see to the
+// room: 17 bytes hold every body, 16 every reply's data, 6 a function.
 ghost use mathlib.Core.Path.{_≡_};
 ghost use mathlib.Core.List.{[], _∷_, _++_};
 ghost use Prim.Native.Nat.{_+_, _≤_};
 ghost use lib.ListN.{length};
 ghost use Rattle.base.specs.Wrote.{Wrote};
 ghost use Rattle.decimal.specs.Print.{printed, twoDigits, tenthsPrinted};
-ghost use Rattle.program.specs.Names.{spelled};
-ghost use Rattle.answer.specs.Answers.{bodyOf, shownLetter};
-ghost use Rattle.answer.specs.Replies.{dataOf, rateUnitText, volumeUnitText, directionText, functionText, datumText, totalsText};
-use crate::replies::Reply;
-use crate::statuses::Status;
+ghost use Rattle.words.specs.Spelling.{functionName, datumText, rateUnitName, volumeUnitName, directionName};
+ghost use Rattle.answer.specs.Answers.{bodyOf};
+ghost use Rattle.answer.specs.Replies.{dataOf, functionText, totalsText};
+use crate::letters::alarm_letter;
+use crate::letters::status_letter;
 use base::copy;
 use base::put;
 use drive::RateUnit;
 use drive::VolumeUnit;
-use program::Direction;
-use program::Function;
+use words::Direction;
+use words::Function;
+use words::Reply;
+use words::Said;
 
-// The address, the status letter, and what the reply says.
-pub fn body(status: Status, reply: Reply, out: &mut [u8], at: usize) -> usize
-    requires { ⌜ at + 20 ≤ length (now out) ⌝ }
-    ensures { λ r. ⌜ Wrote (now (out .entry)) (now (out .exit)) at r (bodyOf status reply) ⌝ }
+// The status letter and what the reply says, or the alarm in their place.
+pub fn body(said: Said, out: &mut [u8], at: usize) -> usize
+    requires { ⌜ at + 17 ≤ length (now out) ⌝ }
+    ensures { λ r. ⌜ Wrote (now (out .entry)) (now (out .exit)) at r (bodyOf said) ⌝ }
 {
-    let a = copy(out, at, b"00");
-    let b = put(out, a, shown_letter(status, reply));
-    data(reply, out, b)
-}
-
-// An alarm is answered with A in the status's place.
-fn shown_letter(status: Status, reply: Reply) -> u8
-    ensures { λ r. ⌜ r ≡ shownLetter status reply ⌝ }
-{
-    match reply {
-        Reply::Alarm(_) => b'A',
-        Reply::Status => status.letter(),
-        Reply::Malformed => status.letter(),
-        Reply::NotApplicable => status.letter(),
-        Reply::OutOfRange => status.letter(),
-        Reply::Number(_) => status.letter(),
-        Reply::Rate(_, _) => status.letter(),
-        Reply::Volume(_, _) => status.letter(),
-        Reply::Direction(_) => status.letter(),
-        Reply::Phase(_) => status.letter(),
-        Reply::Function(_) => status.letter(),
-        Reply::Totals(_, _, _) => status.letter(),
+    match said {
+        Said::Nothing => at,
+        Said::Alarm(alarm) => {
+            let a = copy(out, at, b"A?");
+            put(out, a, alarm_letter(alarm))
+        }
+        Said::Answer(status, reply) => {
+            let a = put(out, at, status_letter(status));
+            data(reply, out, a)
+        }
     }
 }
 
@@ -58,10 +48,6 @@ fn data(reply: Reply, out: &mut [u8], at: usize) -> usize
         Reply::Malformed => copy(out, at, b"?"),
         Reply::NotApplicable => copy(out, at, b"?NA"),
         Reply::OutOfRange => copy(out, at, b"?OOR"),
-        Reply::Alarm(alarm) => {
-            let a = put(out, at, b'?');
-            put(out, a, alarm.letter())
-        }
         Reply::Number(x) => number(x, out, at),
         Reply::Rate(x, unit) => {
             let a = number(x, out, at);
@@ -98,7 +84,7 @@ fn number(x: u32, out: &mut [u8], at: usize) -> usize
     copy(out, at, &text)
 }
 
-fn two_digits(n: u8, out: &mut [u8], at: usize) -> usize
+pub fn two_digits(n: u8, out: &mut [u8], at: usize) -> usize
     requires { ⌜ at + 2 ≤ length (now out) ⌝ }
     ensures { λ r. ⌜ Wrote (now (out .entry)) (now (out .exit)) at r (twoDigits n) ⌝ }
 {
@@ -116,7 +102,7 @@ fn tenths(n: u8, out: &mut [u8], at: usize) -> usize
 
 fn rate_unit(unit: RateUnit, out: &mut [u8], at: usize) -> usize
     requires { ⌜ at + 2 ≤ length (now out) ⌝ }
-    ensures { λ r. ⌜ Wrote (now (out .entry)) (now (out .exit)) at r (rateUnitText unit) ⌝ }
+    ensures { λ r. ⌜ Wrote (now (out .entry)) (now (out .exit)) at r (rateUnitName unit) ⌝ }
 {
     match unit {
         RateUnit::Um => copy(out, at, b"UM"),
@@ -128,7 +114,7 @@ fn rate_unit(unit: RateUnit, out: &mut [u8], at: usize) -> usize
 
 fn volume_unit(unit: VolumeUnit, out: &mut [u8], at: usize) -> usize
     requires { ⌜ at + 2 ≤ length (now out) ⌝ }
-    ensures { λ r. ⌜ Wrote (now (out .entry)) (now (out .exit)) at r (volumeUnitText unit) ⌝ }
+    ensures { λ r. ⌜ Wrote (now (out .entry)) (now (out .exit)) at r (volumeUnitName unit) ⌝ }
 {
     match unit {
         VolumeUnit::Microlitre => copy(out, at, b"UL"),
@@ -138,7 +124,7 @@ fn volume_unit(unit: VolumeUnit, out: &mut [u8], at: usize) -> usize
 
 fn direction(d: Direction, out: &mut [u8], at: usize) -> usize
     requires { ⌜ at + 3 ≤ length (now out) ⌝ }
-    ensures { λ r. ⌜ Wrote (now (out .entry)) (now (out .exit)) at r (directionText d) ⌝ }
+    ensures { λ r. ⌜ Wrote (now (out .entry)) (now (out .exit)) at r (directionName d) ⌝ }
 {
     match d {
         Direction::Infuse => copy(out, at, b"INF"),
@@ -155,48 +141,36 @@ fn function(f: Function, out: &mut [u8], at: usize) -> usize
     function_datum(f, out, a)
 }
 
+// The names stand in the order of the functions' numbers, three letters each; IF has two.
 fn function_name(f: Function, out: &mut [u8], at: usize) -> usize
     requires { ⌜ at + 3 ≤ length (now out) ⌝ }
-    ensures { λ r. ⌜ Wrote (now (out .entry)) (now (out .exit)) at r (spelled f) ⌝ }
+    ensures { λ r. ⌜ Wrote (now (out .entry)) (now (out .exit)) at r (functionName f) ⌝ }
 {
-    match f {
-        Function::Rat => copy(out, at, b"RAT"),
-        Function::Inc => copy(out, at, b"INC"),
-        Function::Dec => copy(out, at, b"DEC"),
-        Function::Stp => copy(out, at, b"STP"),
-        Function::Jmp(_) => copy(out, at, b"JMP"),
-        Function::Lop(_) => copy(out, at, b"LOP"),
-        Function::Lps => copy(out, at, b"LPS"),
-        Function::Lpe => copy(out, at, b"LPE"),
-        Function::Pas(_) => copy(out, at, b"PAS"),
-        Function::Tenths(_) => copy(out, at, b"PAS"),
-        Function::If(_) => copy(out, at, b"IF"),
-        Function::Evn(_) => copy(out, at, b"EVN"),
-        Function::Evr => copy(out, at, b"EVR"),
-        Function::Bep => copy(out, at, b"BEP"),
-        Function::Out(_) => copy(out, at, b"OUT"),
+    let names = *b"RATINCDECSTPJMPLOPLPSLPEPASPASIF EVNEVRBEPOUT";
+    let n = f.number();
+    let start = n as usize * 3;
+    if n == 10 {
+        let two = start + 2;
+        return copy(out, at, &names[start..two]);
     }
+    let three = start + 3;
+    copy(out, at, &names[start..three])
 }
 
 fn function_datum(f: Function, out: &mut [u8], at: usize) -> usize
     requires { ⌜ at + 3 ≤ length (now out) ⌝ }
     ensures { λ r. ⌜ Wrote (now (out .entry)) (now (out .exit)) at r (datumText f) ⌝ }
 {
-    match f {
-        Function::Rat => at,
-        Function::Inc => at,
-        Function::Dec => at,
-        Function::Stp => at,
-        Function::Jmp(n) => two_digits(n, out, at),
-        Function::Lop(n) => two_digits(n, out, at),
-        Function::Lps => at,
-        Function::Lpe => at,
-        Function::Pas(n) => two_digits(n, out, at),
-        Function::Tenths(n) => tenths(n, out, at),
-        Function::If(n) => two_digits(n, out, at),
-        Function::Evn(n) => two_digits(n, out, at),
-        Function::Evr => at,
-        Function::Bep => at,
-        Function::Out(n) => put(out, at, b'0' + n % 10),
+    let n = f.number();
+    let datum = f.datum();
+    if n == 9 {
+        return tenths(datum, out, at);
     }
+    if n == 14 {
+        return put(out, at, b'0' + datum % 10);
+    }
+    if (n == 4) | (n == 10) | (n == 11) | (n == 5) | (n == 8) {
+        return two_digits(datum, out, at);
+    }
+    at
 }

@@ -10,7 +10,7 @@ use borrow.Author.Tests.{eq-eqb, ne-eqb}
 use Rattle.base.specs.Wrote.{Wrote}
 use Rattle.base.proofs.Writing.{wrote-then, wrote-none}
 use Rattle.pump.specs.Calls.{byteReport, byteBuffer, pinCall}
-use Rattle.pump.specs.Reports.{numberOf}
+use Rattle.pump.specs.Reports.{refusalNumber}
 use Rattle.pump.specs.declared.reports.Report.{Report}
 use Rattle.bench.specs.Printing.{Prints, complaintLine, framed, countsLine}
 use Rattle.bench.specs.Rigs.{withPump, zeros, reportOn, bufferOn, answerLine, sentRig, sentLine, sendRig, sendLines}
@@ -23,49 +23,49 @@ use Rattle.bench.proofs.Prints.{prints-as, framed-few}
 use Rattle.many.specs.declared.Ticked.{Ticked}
 
 -- ---- one byte
-module _ (g : Rig) (b : ℕ) (r : Report) (k : ℕ) (e : r ≡ byteReport (g .pump) b zeros) (q : k ≡ numberOf (r .refusal)) where
+module _ (g : Rig) (b : ℕ) (r : Report) (k : ℕ) (e : r ≡ byteReport (g .pump) b zeros) (q : k ≡ refusalNumber (r .refusal)) where
   module _ (n : k ≡ 0 → ⊥) where
-    pub refused-rig : _≡_ {A = Rig} (record { pump = r .pump; answered = true }) (sentRig g b)
+    pub refused-rig : _≡_ {A = Rig} (record { pump = r .pump; replied = true }) (sentRig g b)
     unfolding sentRig reportOn
-    refused-rig = rw (← e) (sym (simp (ne-eqb (numberOf (r .refusal)) 0 (λ z. n (q ∙ z)))))
+    refused-rig = rw (← e) (sym (simp (ne-eqb (refusalNumber (r .refusal)) 0 (λ z. n (q ∙ z)))))
 
     pub refused-prints : {l m : List ℕ} {i j : ℕ} → Wrote l m i j complaintLine → Prints l m i j 23 (sentLine g b)
     unfolding sentLine reportOn answerLine
     refused-prints w =
-        prints-as w (rw (← e) (sym (simp (ne-eqb (numberOf (r .refusal)) 0 (λ z. n (q ∙ z)))))) (omega (arith, w .ends))
+        prints-as w (rw (← e) (sym (simp (ne-eqb (refusalNumber (r .refusal)) 0 (λ z. n (q ∙ z)))))) (omega (arith, w .ends))
 
   module _ (y : k ≡ 0) where
-    accepted : numberOf (r .refusal) ≡ 0
+    accepted : refusalNumber (r .refusal) ≡ 0
     accepted = sym q ∙ y
 
     module _ (z : r .length ≡ 0) where
-      pub silent-rig : _≡_ {A = Rig} (record { pump = r .pump; answered = g .answered }) (sentRig g b)
+      pub silent-rig : _≡_ {A = Rig} (record { pump = r .pump; replied = g .replied }) (sentRig g b)
       unfolding sentRig reportOn
-      silent-rig = rw (← e) (sym (simp (eq-eqb (numberOf (r .refusal)) 0 accepted, eq-eqb (r .length) 0 z)))
+      silent-rig = rw (← e) (sym (simp (eq-eqb (refusalNumber (r .refusal)) 0 accepted, eq-eqb (r .length) 0 z)))
 
       pub silent-prints : (l : List ℕ) (i : ℕ) → i ≤ length l → Prints l l i i 23 (sentLine g b)
       unfolding sentLine reportOn answerLine
       silent-prints l i h =
           prints-as
           (wrote-none l i h)
-          (rw (← e) (sym (simp (eq-eqb (numberOf (r .refusal)) 0 accepted, eq-eqb (r .length) 0 z))))
+          (rw (← e) (sym (simp (eq-eqb (refusalNumber (r .refusal)) 0 accepted, eq-eqb (r .length) 0 z))))
           (omega arith)
 
     module _ (s : r .length ≡ 0 → ⊥) where
-      pub answered-rig : _≡_ {A = Rig} (record { pump = r .pump; answered = true }) (sentRig g b)
+      pub replied-rig : _≡_ {A = Rig} (record { pump = r .pump; replied = true }) (sentRig g b)
       unfolding sentRig reportOn
-      answered-rig = rw (← e) (sym (simp (eq-eqb (numberOf (r .refusal)) 0 accepted, ne-eqb (r .length) 0 s)))
+      replied-rig = rw (← e) (sym (simp (eq-eqb (refusalNumber (r .refusal)) 0 accepted, ne-eqb (r .length) 0 s)))
 
-      pub answered-prints :
+      pub replied-prints :
           {buffer : List ℕ} {l m : List ℕ} {i j : ℕ}
           → buffer ≡ byteBuffer (g .pump) b zeros
           → Wrote l m i j (framed (r .length) buffer ++ 10 ∷ [])
           → Prints l m i j 23 (sentLine g b)
       unfolding sentLine reportOn bufferOn answerLine
-      answered-prints {buffer} f w =
+      replied-prints {buffer} f w =
           prints-as
           w
-          (rw (← e, ← f) (sym (simp (eq-eqb (numberOf (r .refusal)) 0 accepted, ne-eqb (r .length) 0 s))))
+          (rw (← e, ← f) (sym (simp (eq-eqb (refusalNumber (r .refusal)) 0 accepted, ne-eqb (r .length) 0 s))))
           (omega (arith, w .ends, framed-few (r .length) buffer, length-two (g .pump) b r e s, length-held (g .pump) b r e s))
 
 -- ---- a byte of a text, behind the return that was held back
@@ -98,13 +98,13 @@ module _ (g : Rig) (held : Bool) (b : ℕ) where
 
 -- ---- the return that ends a text
 module _ (g : Rig) (held : Bool) (last : Rig) (e : last ≡ sendRig g held 13) where
-  pub finished-rig : _≡_ {A = Rig} (record { pump = last .pump; answered = false }) (finishRig g held)
+  pub finished-rig : _≡_ {A = Rig} (record { pump = last .pump; replied = false }) (finishRig g held)
   unfolding finishRig
   finished-rig = rw e
 
   pub finished-prints :
       {l m : List ℕ} {i j : ℕ}
-      → last .answered ≡ true
+      → last .replied ≡ true
       → Prints l m i j 46 (sendLines g held 13)
       → Prints l m i j 47 (finishLines g held)
   unfolding finishLines
@@ -112,7 +112,7 @@ module _ (g : Rig) (held : Bool) (last : Rig) (e : last ≡ sendRig g held 13) w
 
   pub empty-prints :
       {l m o : List ℕ} {i j k : ℕ}
-      → last .answered ≡ false
+      → last .replied ≡ false
       → Prints l m i j 46 (sendLines g held 13)
       → Wrote m o j k (10 ∷ [])
       → Prints l o i k 47 (finishLines g held)
@@ -121,24 +121,24 @@ module _ (g : Rig) (held : Bool) (last : Rig) (e : last ≡ sendRig g held 13) w
 
 -- ---- a pin's level
 module _ (g : Rig) (pin level : ℕ) (r : Report) (e : r ≡ pinCall (g .pump) pin level) where
-  pub set-rig : _≡_ {A = Rig} (record { pump = r .pump; answered = g .answered }) (setRig g pin level)
+  pub set-rig : _≡_ {A = Rig} (record { pump = r .pump; replied = g .replied }) (setRig g pin level)
   unfolding setRig
   set-rig = rw e
 
-  module _ (k : ℕ) (q : k ≡ numberOf (r .refusal)) where
+  module _ (k : ℕ) (q : k ≡ refusalNumber (r .refusal)) where
     pub set-silent : {l : List ℕ} {i : ℕ} → k ≡ 0 → i ≤ length l → Prints l l i i 2 (setLines g pin level)
     unfolding setLines
     set-silent {l} {i} y h =
-        prints-as (wrote-none l i h) (rw (← e) (sym (simp (eq-eqb (numberOf (r .refusal)) 0 (sym q ∙ y))))) (omega arith)
+        prints-as (wrote-none l i h) (rw (← e) (sym (simp (eq-eqb (refusalNumber (r .refusal)) 0 (sym q ∙ y))))) (omega arith)
 
     pub set-refused : {l m : List ℕ} {i j : ℕ} → (k ≡ 0 → ⊥) → Wrote l m i j complaintLine → Prints l m i j 2 (setLines g pin level)
     unfolding setLines
     set-refused n w =
-        prints-as w (rw (← e) (sym (simp (ne-eqb (numberOf (r .refusal)) 0 (λ z. n (q ∙ z)))))) (omega (arith, w .ends))
+        prints-as w (rw (← e) (sym (simp (ne-eqb (refusalNumber (r .refusal)) 0 (λ z. n (q ∙ z)))))) (omega (arith, w .ends))
 
 -- ---- ticks
 module _ (g : Rig) (n : ℕ) (t : Ticked) (f : t ≡ ticked n (g .pump)) where
-  pub run-rig : _≡_ {A = Rig} (record { pump = t .pump; answered = g .answered }) (runRig g n)
+  pub run-rig : _≡_ {A = Rig} (record { pump = t .pump; replied = g .replied }) (runRig g n)
   unfolding runRig
   run-rig = ap (λ (u : Ticked). withPump g (u .pump)) f
 

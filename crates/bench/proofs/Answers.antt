@@ -5,18 +5,19 @@ use mathlib.Core.Path.{_≡_, refl}
 use mathlib.Core.Logic.{_⊎_, inl, inr, ⊎-elim}
 use mathlib.Core.Bool.{Bool, true, false}
 use native.Mathlib.Omega.{arith}
-use lib.ListN.{length, length-append}
+use lib.ListN.{length}
 use Rattle.base.specs.If.{if_then_else_}
-use Rattle.answer.specs.Answers.{answerOf, lengthIn}
-use Rattle.answer.specs.declared.replies.Reply.{Reply}
-use Rattle.answer.specs.declared.statuses.Status.{Status}
+use Rattle.answer.specs.Answers.{bodyOf, answerOf, lengthIn}
+use Rattle.answer.proofs.Lengths.{framed-length}
 use Rattle.answer.proofs.Theorems.{answer-length}
+use Rattle.words.specs.declared.answers.Said.{Said}
+use Rattle.words.specs.declared.answers.Said.the-variants as said
 use Rattle.line.specs.Lines.{afterByte}
 use Rattle.line.specs.declared.lines.Arrived.{Arrived}
-use Rattle.pump.specs.Calls.{byteReport, received, arrivedReport}
-use Rattle.pump.specs.Holder.{withLine, soundPump}
-use Rattle.pump.specs.Lines.{Said, quiet, saying, reportOf, afterLine, statusNow}
+use Rattle.pump.specs.Calls.{byteReport, received, arrivedReport, afterLine, heardReport, saidBy, held}
+use Rattle.pump.specs.Holder.{isSoundPump}
 use Rattle.pump.specs.Reports.{refused, reported}
+use Rattle.pump.specs.declared.calls.Listened.{Listened}
 use Rattle.pump.specs.declared.holder.Pump.{Pump}
 use Rattle.pump.specs.declared.reports.Report.{Report}
 use Rattle.pump.specs.declared.reports.Refusal.the-variants.{Unsound}
@@ -26,26 +27,26 @@ use Rattle.bench.specs.Rigs.{zeros}
 abbrev pub Sized : ℕ → Type 0
 Sized n = (n ≡ 0) ⊎ ((2 ≤ n) × (n ≤ 24))
 
-answer-framed : (status : Status) (reply : Reply) → 2 ≤ length (answerOf status reply)
-unfolding answerOf
-answer-framed status reply = simp length-append (omega arith)
+answer-sized : (s : Said) → Sized (length (answerOf 0 s))
+answer-sized said.Nothing = inl refl
+answer-sized (said.Alarm a) = inr (omega (arith, framed-length 0 (bodyOf (said.Alarm a))), answer-length 0 (said.Alarm a))
+answer-sized (said.Answer status r) = inr (omega (arith, framed-length 0 (bodyOf (said.Answer status r))), answer-length 0 (said.Answer status r))
 
-said-sized : (s : Said) → Sized (reportOf s zeros .length)
+heard-sized : (l : Listened) → Sized (heardReport l zeros .length)
 unfolding lengthIn
-said-sized (quiet p) = inl refl
-said-sized (saying p r) = inr (answer-framed (statusNow p) r, answer-length (statusNow p) r)
+heard-sized l = answer-sized (saidBy (l .pump) (l .told))
 
 pub byte-sized : (p : Pump) (b : ℕ) → Sized (byteReport p b zeros .length)
 unfolding byteReport received
-byte-sized p b = go (soundPump p) (afterByte (p .line) b)
+byte-sized p b = go (isSoundPump p) (afterByte (p .device .line) b)
   where
     arrived :
-        (t : Bool) (q : Pump) → Sized ((if t then reportOf (afterLine q) zeros else reported q 0) .length)
-    arrived true q = said-sized (afterLine q)
+        (t : Bool) (q : Pump) → Sized ((if t then heardReport (afterLine q) zeros else reported q 0) .length)
+    arrived true q = heard-sized (afterLine q)
     arrived false q = inl refl
 
     go : (t : Bool) (a : Arrived) → Sized ((if t then arrivedReport p a zeros else refused p Unsound) .length)
-    go true a = arrived (a .ended) (withLine p (a .line))
+    go true a = arrived (a .ended) (held p a)
     go false a = inl refl
 
 module _ (p : Pump) (b : ℕ) (r : Report) (e : r ≡ byteReport p b zeros) where

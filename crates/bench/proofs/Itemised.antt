@@ -31,7 +31,7 @@ use Rattle.bench.proofs.Texts.{textLines, textRig, text-line, text-pump
 
 -- ---- between two lines no text is under way
 abbrev pub idle : Pump → Rig
-idle p = record { pump = p; answered = false }
+idle p = record { pump = p; replied = false }
 
 abbrev standing : Rig → Place → Bench
 standing g q = record { rig = g; place = q }

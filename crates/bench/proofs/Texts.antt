@@ -39,7 +39,7 @@ return-sent g h ended =
     first-first
     (sentLine g 13)
     (sentLine (sentRig g 13) 13)
-    (outcome (if sentRig (sentRig g 13) 13 .answered then [] else newline ∷ []) (finishRig (sentRig g 13) false))
+    (outcome (if sentRig (sentRig g 13) 13 .replied then [] else newline ∷ []) (finishRig (sentRig g 13) false))
 return-sent g h (at-newline r) = false-true (sym h)
 return-sent g h (at-both r) = refl
 return-sent g h (at-return s l r k d) = refl
@@ -65,7 +65,7 @@ text-line g (at-other b s l r e f d) =
 
 -- ---- the pump in the end
 pub text-pump :
-    (g : Rig) (l : List ℕ) → textRig g l ≡ record { pump = sent (g .pump) (l ++ (carriageReturn ∷ [])); answered = false }
+    (g : Rig) (l : List ℕ) → textRig g l ≡ record { pump = sent (g .pump) (l ++ (carriageReturn ∷ [])); replied = false }
 unfolding textRig sent finishRig sendRig sentRig
 text-pump g [] = refl
 text-pump g (b ∷ l) = text-pump (sentRig g b) l
@@ -103,13 +103,13 @@ told true none was line = sym (or-true was)
 told false true was line = sym (or-false was)
 told false false was line = rw (some-line line) (sym (or-true was))
 
-answered-told : (g : Rig) (b : ℕ) → sentRig g b .answered ≡ (g .answered || some (sentLine g b))
+replied-told : (g : Rig) (b : ℕ) → sentRig g b .replied ≡ (g .replied || some (sentLine g b))
 unfolding sentRig sentLine answerLine
-answered-told g b =
+replied-told g b =
     told
     (isRefused (reportOn (g .pump) b .refusal))
     (eqb (reportOn (g .pump) b .length) 0)
-    (g .answered)
+    (g .replied)
     (framed (reportOn (g .pump) b .length) (bufferOn (g .pump) b))
 
 -- ---- what is printed
@@ -120,22 +120,22 @@ text-answers :
     (g : Rig) (l : List ℕ)
     → textLines g l
     ≡ answers (g .pump) (l ++ (carriageReturn ∷ []))
-    ++ emptyUnless (g .answered || some (answers (g .pump) (l ++ (carriageReturn ∷ []))))
+    ++ emptyUnless (g .replied || some (answers (g .pump) (l ++ (carriageReturn ∷ []))))
 unfolding textLines finishLines sendLines sendRig sentRig sentLine answers
 text-answers g [] =
-    ap (λ (t : Bool). sentLine g 13 ++ emptyUnless t) (answered-told g 13)
+    ap (λ (t : Bool). sentLine g 13 ++ emptyUnless t) (replied-told g 13)
     ∙ ap
-    (λ (u : List ℕ). u ++ emptyUnless (g .answered || some u))
+    (λ (u : List ℕ). u ++ emptyUnless (g .replied || some u))
     (sym (append-nil (sentLine g 13)))
 text-answers g (b ∷ l) =
     let more = answers (sentRig g b .pump) (l ++ (carriageReturn ∷ [])) in
     ap (λ (u : List ℕ). sentLine g b ++ u) (text-answers (sentRig g b) l)
-    ∙ ap (λ (t : Bool). sentLine g b ++ (more ++ emptyUnless (t || some more))) (answered-told g b)
+    ∙ ap (λ (t : Bool). sentLine g b ++ (more ++ emptyUnless (t || some more))) (replied-told g b)
     ∙ ap
     (λ (t : Bool). sentLine g b ++ (more ++ emptyUnless t))
-    (or-assoc (g .answered) (some (sentLine g b)) (some more)
-    ∙ ap (λ (t : Bool). g .answered || t) (sym (some-append (sentLine g b) more)))
-    ∙ sym (append-assoc (sentLine g b) more (emptyUnless (g .answered || some (sentLine g b ++ more))))
+    (or-assoc (g .replied) (some (sentLine g b)) (some more)
+    ∙ ap (λ (t : Bool). g .replied || t) (sym (some-append (sentLine g b) more)))
+    ∙ sym (append-assoc (sentLine g b) more (emptyUnless (g .replied || some (sentLine g b ++ more))))
 
 or-empty : (s : List ℕ) → s ++ emptyUnless (some s) ≡ orEmptyLine s
 or-empty [] = refl
@@ -143,5 +143,5 @@ or-empty (b ∷ s) = append-nil (b ∷ s)
 
 pub text-says :
     (p : Pump) (l : List ℕ)
-    → textLines (record { pump = p; answered = false }) l ≡ orEmptyLine (answers p (l ++ (carriageReturn ∷ [])))
-text-says p l = text-answers (record { pump = p; answered = false }) l ∙ or-empty (answers p (l ++ (carriageReturn ∷ [])))
+    → textLines (record { pump = p; replied = false }) l ≡ orEmptyLine (answers p (l ++ (carriageReturn ∷ [])))
+text-says p l = text-answers (record { pump = p; replied = false }) l ∙ or-empty (answers p (l ++ (carriageReturn ∷ [])))

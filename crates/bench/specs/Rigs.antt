@@ -7,7 +7,7 @@ use lib.ListN.{replicate}
 use Rattle.base.specs.If.{if_then_else_}
 use Rattle.pump.specs.Calls.{byteReport, byteBuffer, pinCall}
 use Rattle.pump.specs.Holder.{modelPhases, freshPump}
-use Rattle.pump.specs.Reports.{numberOf}
+use Rattle.pump.specs.Reports.{refusalNumber}
 use Rattle.pump.specs.declared.holder.Pump.{Pump}
 use Rattle.pump.specs.declared.reports.Refusal.{Refusal}
 use Rattle.pump.specs.declared.reports.Report.{Report}
@@ -20,14 +20,14 @@ use Rattle.bench.specs.declared.rigs.Rig.{Rig}
 
 -- a pump just switched on, and no text yet
 abbrev pub freshRig : Rig
-freshRig = record { pump = freshPump modelPhases; answered = false }
+freshRig = record { pump = freshPump modelPhases; replied = false }
 
 -- another pump in the rig
 abbrev pub withPump : Rig → Pump → Rig
-withPump g p = record { pump = p; answered = g .answered }
+withPump g p = record { pump = p; replied = g .replied }
 
 abbrev pub isRefused : Refusal → Bool
-isRefused r = not (eqb (numberOf r) 0)
+isRefused r = not (eqb (refusalNumber r) 0)
 
 -- ---- a byte call: its report, and the buffer that it writes its answer to
 abbrev pub zeros : List ℕ
@@ -51,10 +51,10 @@ unfoldable pub sentRig : Rig → ℕ → Rig
 sentRig g b =
     record {
       pump = reportOn (g .pump) b .pump;
-      answered =
+      replied =
           if isRefused (reportOn (g .pump) b .refusal)
           then true
-          else if eqb (reportOn (g .pump) b .length) 0 then g .answered else true;
+          else if eqb (reportOn (g .pump) b .length) 0 then g .replied else true;
     }
 
 unfoldable pub sentLine : Rig → ℕ → List ℕ
@@ -69,11 +69,11 @@ sendLines g held b = if held then sentLine g carriageReturn ++ sentLine (sentRig
 
 -- ---- `>` and a text sends it with a return; an empty line if no answer
 unfoldable pub finishRig : Rig → Bool → Rig
-finishRig g held = record { pump = sendRig g held carriageReturn .pump; answered = false }
+finishRig g held = record { pump = sendRig g held carriageReturn .pump; replied = false }
 
 unfoldable pub finishLines : Rig → Bool → List ℕ
 finishLines g held =
-    sendLines g held carriageReturn ++ (if sendRig g held carriageReturn .answered then [] else newline ∷ [])
+    sendLines g held carriageReturn ++ (if sendRig g held carriageReturn .replied then [] else newline ∷ [])
 
 -- ---- `E pin level` sets a pin, printing nothing; a refused call prints `!`
 unfoldable pub setRig : Rig → ℕ → ℕ → Rig

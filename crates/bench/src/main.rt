@@ -2,9 +2,10 @@
 // that was just switched on, and prints what comes of them. It is a filter: what a part of the input has to say is written before
 // more is read, and of the input no more is kept than where in a line it stands.
 //
-//   places     where in a line the input stands, and what a byte asks for there
-//   bytes      a byte at each place
+//   places     where in a line the input stands, and what can be asked for there
 //   numbers    the numbers of an item, as their digits come
+//   bytes      a byte at each place
+//   reading    one byte more of a line
 //   rigs       the pump under test: what each act does to it and prints
 //   printing   lines, counts, the complaint
 //   feeding    the bytes of the input, one after the other, and its end
@@ -16,6 +17,7 @@ mod feeding;
 mod numbers;
 mod places;
 mod printing;
+mod reading;
 mod rigs;
 
 use feeding::Bench;

@@ -20,7 +20,7 @@ pub const ROOM: usize = 69;
 // The pump, and whether the present text has had an answer yet.
 pub struct Rig {
     pub pump: Pump,
-    pub answered: bool,
+    pub replied: bool,
 }
 
 // The rig after an act, and where what it printed ends.
@@ -35,7 +35,7 @@ impl Rig {
     {
         Rig {
             pump: Pump::new(),
-            answered: false,
+            replied: false,
         }
     }
 
@@ -86,9 +86,9 @@ impl Rig {
         let pump = rig.pump;
         let next = Rig {
             pump: pump,
-            answered: false,
+            replied: false,
         };
-        if rig.answered {
+        if rig.replied {
             return Acted {
                 rig: next,
                 end: last.end,
@@ -117,7 +117,7 @@ impl Rig {
             return Acted {
                 rig: Rig {
                     pump: next,
-                    answered: true,
+                    replied: true,
                 },
                 end: complaint(out, at),
             };
@@ -126,7 +126,7 @@ impl Rig {
             return Acted {
                 rig: Rig {
                     pump: next,
-                    answered: self.answered,
+                    replied: self.replied,
                 },
                 end: at,
             };
@@ -134,7 +134,7 @@ impl Rig {
         Acted {
             rig: Rig {
                 pump: next,
-                answered: true,
+                replied: true,
             },
             end: answer_line(&answer, n, out, at),
         }
@@ -153,7 +153,7 @@ impl Rig {
         let refusal = report.refusal;
         let rig = Rig {
             pump: next,
-            answered: self.answered,
+            replied: self.replied,
         };
         if refusal.number() == 0 {
             return Acted { rig: rig, end: at };
@@ -176,7 +176,7 @@ impl Rig {
         let next = ticked.pump;
         let rig = Rig {
             pump: next,
-            answered: self.answered,
+            replied: self.replied,
         };
         if ticked.sound {
             return Acted {

@@ -16,8 +16,8 @@ use Rattle.drive.specs.Syringe.{mostDiameter, threshold}
 use Rattle.drive.specs.declared.rates.RateUnit.{RateUnit}
 use Rattle.drive.proofs.Bounds.{threshold-le}
 use Rattle.drive.proofs.Theorems.{usable-iff}
-use Rattle.program.specs.declared.phases.Phase.{Phase}
-use Rattle.dispense.specs.Visits.{Working, dueOf, storeOf, stepsOf, visitTests, soundVisit}
+use Rattle.words.specs.declared.phases.Phase.{Phase}
+use Rattle.dispense.specs.Visits.{Working, dueOf, storeOf, stepsOf, visitTests, isSoundVisit}
 use Rattle.dispense.specs.declared.rates.Rate.{Rate}
 use Rattle.dispense.specs.declared.rates.Rate.the-variants.{Current}
 use Rattle.dispense.specs.declared.visits.Visit.{Visit}
@@ -56,15 +56,15 @@ module _ (v : Visit) (hourly limit : ℕ) (w : Working v hourly limit) where
   unfolding stepsOf
   steps-within-target ne = omega (arith, w .within, of-left (eqb (v .target) 0) (ne-eqb _ _ ne))
 
-pub visit-tests : (d : ℕ) (p : Phase) (rate : Rate) (v : Visit) → soundVisit d p rate v ≡ true → Each (visitTests d p rate v)
-unfolding soundVisit
+pub visit-tests : (d : ℕ) (p : Phase) (rate : Rate) (v : Visit) → isSoundVisit d p rate v ≡ true → Each (visitTests d p rate v)
+unfolding isSoundVisit
 visit-tests d p rate v h = each (visitTests d p rate v) h
 
 -- ---- a sound visit at its rate
 pub visit-works :
     (d : ℕ) (p : Phase) (r : ℕ) (unit : RateUnit) (v : Visit)
     → d ≤ mostDiameter
-    → soundVisit d p (Current unit r) v ≡ true
+    → isSoundVisit d p (Current unit r) v ≡ true
     → Working v (hourly r unit) (threshold d)
 visit-works d p r unit v hd h =
     let t = visit-tests d p (Current unit r) v h in

@@ -1,4 +1,4 @@
 -- What a rate phase dispenses.
 pub mod Rates
 pub mod Visits
-pub mod Totals
+pub mod Ledgers

@@ -8,24 +8,24 @@ use Rattle.dispense.specs.declared.rates.Rate.{Rate}
 use Rattle.dispense.specs.declared.rates.Rate.the-variants.{NoRate, Current}
 
 -- the thousandths of a current rate, 0 where there is none
-abbrev pub ratio : Rate → ℕ
-ratio NoRate = 0
-ratio (Current unit r) = r
+abbrev pub thousandths : Rate → ℕ
+thousandths NoRate = 0
+thousandths (Current unit r) = r
 
 -- INC and DEC: the stored thousandths added to the current rate or taken from it, in its units; none current, or a result over
 -- 9,999.000, is no rate; below 0 it is 0, which is not usable
-abbrev pub raised : Rate → ℕ → Rate
-raised NoRate x = NoRate
-raised (Current unit r) x = if leb (r + x) mostRate then Current unit (r + x) else NoRate
+abbrev pub increase : Rate → ℕ → Rate
+increase NoRate x = NoRate
+increase (Current unit r) x = if leb (r + x) mostRate then Current unit (r + x) else NoRate
 
-abbrev pub lowered : Rate → ℕ → Rate
-lowered NoRate x = NoRate
-lowered (Current unit r) x = Current unit (r - x)
+abbrev pub decrease : Rate → ℕ → Rate
+decrease NoRate x = NoRate
+decrease (Current unit r) x = Current unit (r - x)
 
 -- a visit under way has a usable rate
-abbrev pub usableRate : ℕ → Rate → Bool
-usableRate d NoRate = false
-usableRate d (Current unit r) = usable d r unit
+abbrev pub isUsableRate : ℕ → Rate → Bool
+isUsableRate d NoRate = false
+isUsableRate d (Current unit r) = usable d r unit
 
 -- a stopped pump has none
 abbrev pub isNoRate : Rate → Bool

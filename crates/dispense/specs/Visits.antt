@@ -6,11 +6,12 @@ use lib.Dec.{ltb, leb, eqb}
 use Rattle.base.specs.All.{all}
 use Rattle.base.specs.If.{if_then_else_}
 use Rattle.drive.specs.Syringe.{threshold, target}
-use Rattle.program.specs.Functions.{pumps}
-use Rattle.program.specs.declared.phases.Phase.{Phase}
-use Rattle.dispense.specs.Rates.{usableRate}
+use Rattle.words.specs.Functions.{isRatePhase}
+use Rattle.words.specs.declared.phases.Phase.{Phase}
+use Rattle.dispense.specs.Rates.{isUsableRate}
 use Rattle.dispense.specs.declared.rates.Rate.{Rate}
 use Rattle.dispense.specs.declared.visits.Visit.{Visit}
+use Rattle.dispense.specs.declared.visits.Worked.{Worked}
 
 -- what a working tick may rely on
 pub record Working (v : Visit) (hourly threshold : ℕ) : Type 0 where
@@ -38,9 +39,13 @@ givenOf v hourly threshold = if eqb (v .target) 0 then v .given else v .given + 
 unfoldable pub workedOf : Visit → ℕ → ℕ → Visit
 workedOf v hourly threshold = record { given = givenOf v hourly threshold; target = v .target; store = storeOf v hourly threshold }
 
+-- a working tick: the visit after it, and the steps that it gives
+abbrev pub work : Visit → ℕ → ℕ → Worked
+work v hourly threshold = record { visit = workedOf v hourly threshold; steps = stepsOf v hourly threshold }
+
 -- reaching the target ends the visit
-unfoldable pub doneOf : Visit → Bool
-doneOf v = ltb 0 (v .target) && leb (v .target) (v .given)
+unfoldable pub isDone : Visit → Bool
+isDone v = ltb 0 (v .target) && leb (v .target) (v .given)
 
 -- ---- a visit: the store below the threshold, the target that phase, volume and diameter give, the steps given below it (a continuous
 -- visit has no target and counts none), a usable rate, in a RAT, INC or DEC phase
@@ -49,9 +54,9 @@ visitTests d p rate v =
     ltb (v .store) (threshold d)
     ∷ eqb (v .target) (target d (p .volume))
     ∷ (ltb (v .given) (v .target) || eqb (p .volume) 0 && eqb (v .given) 0)
-    ∷ usableRate d rate
-    ∷ pumps (p .function)
+    ∷ isUsableRate d rate
+    ∷ isRatePhase (p .function)
     ∷ []
 
-unfoldable pub soundVisit : ℕ → Phase → Rate → Visit → Bool
-soundVisit d p rate v = all (visitTests d p rate v)
+unfoldable pub isSoundVisit : ℕ → Phase → Rate → Visit → Bool
+isSoundVisit d p rate v = all (visitTests d p rate v)

@@ -1,8 +1,6 @@
 // The current rate, and what INC and DEC make of it.
 ghost use mathlib.Core.Path.{_≡_};
-ghost use Prim.Native.Nat.{_≤_};
-ghost use Rattle.drive.specs.Rates.{mostRate};
-ghost use Rattle.dispense.specs.Rates.{ratio, raised, lowered, isNoRate, usableRate};
+ghost use Rattle.dispense.specs.Rates.{increase, decrease, thousandths, isNoRate, isUsableRate};
 use drive::RateUnit;
 
 // The current rate: its units, and how many thousandths of them. The unit comes first, so that no three bytes lie unused: the
@@ -13,16 +11,17 @@ pub enum Rate {
 }
 
 impl Rate {
-    // INC: a sum over 9,999.000 is no rate.
-    pub fn raised_by(self, x: u32) -> Rate
-        requires { ⌜ (ratio self ≤ mostRate) × (x ≤ mostRate) ⌝ }
-        ensures { λ r. ⌜ r ≡ raised self x ⌝ }
+    // INC: a sum over 9,999.000 is no rate. What is left up to there is compared, so that no sum overflows.
+    pub fn increase(self, x: u32) -> Rate
+        ensures { λ r. ⌜ r ≡ increase self x ⌝ }
     {
         match self {
             Rate::NoRate => Rate::NoRate,
             Rate::Current(unit, r) => {
-                if r + x <= decimal::MOST {
-                    return Rate::Current(unit, r + x);
+                if r <= decimal::MOST {
+                    if x <= decimal::MOST - r {
+                        return Rate::Current(unit, r + x);
+                    }
                 }
                 Rate::NoRate
             }
@@ -30,8 +29,8 @@ impl Rate {
     }
 
     // DEC: what would fall below 0 is 0, which is not usable.
-    pub fn lowered_by(self, x: u32) -> Rate
-        ensures { λ r. ⌜ r ≡ lowered self x ⌝ }
+    pub fn decrease(self, x: u32) -> Rate
+        ensures { λ r. ⌜ r ≡ decrease self x ⌝ }
     {
         match self {
             Rate::NoRate => Rate::NoRate,
@@ -45,7 +44,7 @@ impl Rate {
     }
 
     pub fn thousandths(self) -> u32
-        ensures { λ r. ⌜ r ≡ ratio self ⌝ }
+        ensures { λ r. ⌜ r ≡ thousandths self ⌝ }
     {
         match self {
             Rate::NoRate => 0,
@@ -53,7 +52,7 @@ impl Rate {
         }
     }
 
-    pub fn is_none(self) -> bool
+    pub fn is_no_rate(self) -> bool
         ensures { λ r. ⌜ r ≡ isNoRate self ⌝ }
     {
         match self {
@@ -62,8 +61,8 @@ impl Rate {
         }
     }
 
-    pub fn usable(self, d: u16) -> bool
-        ensures { λ r. ⌜ r ≡ usableRate d self ⌝ }
+    pub fn is_usable(self, d: u16) -> bool
+        ensures { λ r. ⌜ r ≡ isUsableRate d self ⌝ }
     {
         match self {
             Rate::NoRate => false,

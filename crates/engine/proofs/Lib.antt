@@ -1,9 +1,8 @@
 -- Laws that crates above cite.
 pub mod Choosing
-pub mod Visiting
-pub mod Readiness
-pub mod Ticking
-pub mod Asking
-pub mod Obeying
+pub mod Modes
 pub mod Switching
-pub mod Others
+pub mod Ticking
+pub mod Visiting
+pub mod Parts
+pub mod Readiness

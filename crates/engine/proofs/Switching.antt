@@ -1,33 +1,35 @@
--- What a falling edge of pin 2 or 4 does, by the alarm, the mode, the work and the trap that it finds.
+-- What a falling edge of pin 2 or 4 does, by the alarm, the mode and the trap that it finds.
 -- Assumes nothing.
 use mathlib.Core.Path.{_≡_, sym, ap, _∙_}
-use Rattle.engine.specs.Edges.{switched, switchedBy, switchedWork, footSwitch, unlessAlarm, trapped, trappedBy, firedBy}
-use Rattle.engine.specs.declared.state.Core.{Core}
+use mathlib.Core.Bool.{Bool, true, false}
+use Rattle.base.specs.If.{if_then_else_}
+use Rattle.engine.specs.Control.{runOn, stopNow}
+use Rattle.engine.specs.Edges.{footSwitch, unlessAlarm, spring, springIn, springBy}
+use Rattle.engine.specs.Runs.{pending}
+use Rattle.engine.specs.declared.control.Steered.{Steered}
 use Rattle.engine.specs.declared.state.Mode.{Mode}
 use Rattle.engine.specs.declared.state.Mode.the-variants.{Running}
 use Rattle.engine.specs.declared.state.Pending.{Pending}
+use Rattle.engine.specs.declared.state.Run.{Run}
 use Rattle.engine.specs.declared.state.Trap.{Trap}
-use Rattle.engine.specs.declared.state.Work.{Work}
 
-module _ (s r : Core) where
-  pub foot-by : (a : Pending) → s .run .alarm ≡ a → r ≡ unlessAlarm s a → r ≡ footSwitch s
+module _ (r x : Run) where
+  pub foot-by : (a k : Pending) → a ≡ pending r → a ≡ k → x ≡ unlessAlarm r k → x ≡ footSwitch r
   unfolding footSwitch
-  foot-by a e q = q ∙ ap (unlessAlarm s) (sym e)
+  foot-by a k p e q = q ∙ ap (unlessAlarm r) (sym e ∙ p)
 
-  module _ (m : Mode) (e : s .run .mode ≡ m) where
-    pub switched-by : r ≡ switchedBy s m → r ≡ switched s
-    unfolding switched
-    switched-by q = q ∙ ap (switchedBy s) (sym e)
+  pub spring-by : (m : Mode) → r .mode ≡ m → x ≡ springIn r m → x ≡ spring r
+  unfolding spring
+  spring-by m e q = q ∙ ap (springIn r) (sym e)
 
-    pub trapped-by : r ≡ trappedBy s m → r ≡ trapped s
-    unfolding trapped
-    trapped-by q = q ∙ ap (trappedBy s) (sym e)
+  pub spring-on : (t : Trap) → r .mode ≡ Running → r .trap ≡ t → x ≡ springBy r t → x ≡ spring r
+  spring-on t e k q = spring-by Running e (q ∙ ap (springBy r) (sym k))
 
-  module _ (e : s .run .mode ≡ Running) where
-    pub switched-on : (w : Work) → s .run .place .work ≡ w → r ≡ switchedWork s w → r ≡ switched s
-    switched-on w k q = switched-by Running e (q ∙ ap (switchedWork s) (sym k))
+module _ (r : Run) (s : Steered) (t : Bool) where
+  pub foot-stops : t ≡ true → s ≡ stopNow r → s .run ≡ if_then_else_ {A = Steered} t (stopNow r) (runOn r) .run
+  foot-stops e q = rw (q, e)
 
-    pub trapped-on : (t : Trap) → s .run .trap ≡ t → r ≡ firedBy s t → r ≡ trapped s
-    trapped-on t k q = trapped-by Running e (q ∙ ap (firedBy s) (sym k))
+  pub foot-runs : t ≡ false → s ≡ runOn r → s .run ≡ if_then_else_ {A = Steered} t (stopNow r) (runOn r) .run
+  foot-runs e q = rw (q, e)
 
-pub ruleset switching = (foot-by, switched-by, switched-on, trapped-by, trapped-on)
+pub ruleset switching = (foot-by, foot-stops, foot-runs, spring-by, spring-on)

@@ -1,22 +1,42 @@
--- A tick by its cases: the mode, the work under way, the function of the phase that is entered.
+-- A tick by its cases: the mode, the work under way, the current rate, the function of the phase that is entered.
 -- Assumes nothing.
+use Prim.Native.Nat.{ℕ}
 use mathlib.Core.Path.{_≡_, sym, ap, _∙_}
-use Rattle.program.specs.declared.functions.Function.{Function}
-use Rattle.program.specs.declared.phases.Phase.{Phase}
-use Rattle.engine.specs.Ticks.{enterBy, enter, workBy, tickBy, tickOf}
+use Rattle.words.specs.Functions.{pauseTicks}
+use Rattle.words.specs.declared.functions.Function.{Function}
+use Rattle.words.specs.declared.phases.Phase.{Phase}
+use Rattle.engine.specs.Entering.{enterPause, enterBy, enter}
+use Rattle.engine.specs.Ticks.{workBy, tickBy, tickOf}
 use Rattle.engine.specs.declared.state.Core.{Core}
 use Rattle.engine.specs.declared.state.Mode.{Mode}
 use Rattle.engine.specs.declared.state.Mode.the-variants.{Running}
+use Rattle.engine.specs.declared.state.Pins.{Pins}
+use Rattle.engine.specs.declared.state.Run.{Run}
 use Rattle.engine.specs.declared.state.Work.{Work}
+use Rattle.engine.specs.declared.ticks.Moved.{Moved}
 
-module _ (s : Core) (p : Phase) where
-  pub enter-at : (g : Function) → p .function ≡ g → enterBy s p g ≡ enter s p
+module _ (r : Run) (pins : Pins) (d : ℕ) (p : Phase) (x : Run) (g : Function) (e : p .function ≡ g) where
+  pub enters-by : x ≡ enterBy r pins d p g → x ≡ enter r pins d p
   unfolding enter
-  enter-at g e = ap (enterBy s p) (sym e)
+  enters-by q = q ∙ ap (enterBy r pins d p) (sym e)
 
-  pub tick-at : (m : Mode) → s .run .mode ≡ m → tickBy s p m ≡ tickOf s p
+  -- a pause's ticks are told by the phase's function
+  pub enters-pause :
+      (t : ℕ)
+      → t ≡ pauseTicks (p .function)
+      → x ≡ enterPause r t
+      → enterPause r (pauseTicks g) ≡ enterBy r pins d p g
+      → x ≡ enter r pins d p
+  enters-pause t k q h = enters-by (q ∙ ap (enterPause r) (k ∙ ap pauseTicks e) ∙ h)
+
+module _ (s : Core) (p : Phase) (x : Moved) where
+  pub ticks-by : (m : Mode) → s .run .mode ≡ m → x ≡ tickBy s p m → x ≡ tickOf s p
   unfolding tickOf
-  tick-at m e = ap (tickBy s p) (sym e)
+  ticks-by m e q = q ∙ ap (tickBy s p) (sym e)
 
-  pub tick-running : (w : Work) → s .run .place .work ≡ w → s .run .mode ≡ Running → workBy s p w ≡ tickOf s p
-  tick-running w f e = ap (workBy s p) (sym f) ∙ tick-at Running e
+  pub ticks-on : (w : Work) → s .run .mode ≡ Running → s .run .place .work ≡ w → x ≡ workBy s p w → x ≡ tickOf s p
+  ticks-on w e k q = ticks-by Running e (q ∙ ap (workBy s p) (sym k))
+
+pub ruleset entering = (enters-by, enters-pause)
+
+pub ruleset ticking = (ticks-by, ticks-on)

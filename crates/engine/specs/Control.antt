@@ -1,92 +1,45 @@
--- RUN, STP and CLD; what power-up and *RESET make of the core.   (01, Commands)
+-- RUN and STP: what they make of the program under way, and whether they apply.   (01, Commands)
 use Prim.Native.Nat.{ℕ}
-use mathlib.Core.Bool.{true, false}
 use Rattle.base.specs.If.{if_then_else_}
-use Rattle.answer.specs.declared.replies.Reply.the-variants as reply
-use Rattle.answer.specs.declared.statuses.Alarm.the-variants.{PowerUp}
-use Rattle.program.specs.Functions.{isPhase}
-use Rattle.program.specs.declared.phases.Direction.{Direction}
-use Rattle.program.specs.declared.phases.Direction.the-variants.{Infuse, Withdraw}
-use Rattle.program.specs.declared.phases.Phase.{Phase}
-use Rattle.engine.specs.Queries.{operating}
-use Rattle.engine.specs.Runs.{freshAt, started, stopped, paused, resumed, toNext}
-use Rattle.engine.specs.Settings.{answered}
-use Rattle.engine.specs.Working.{withTotals}
-use Rattle.engine.specs.declared.settings.Obeyed.{Obeyed}
-use Rattle.engine.specs.declared.state.Core.{Core}
+use Rattle.words.specs.Functions.{isPhase}
+use Rattle.words.specs.declared.answers.Reply.{Reply}
+use Rattle.words.specs.declared.answers.Reply.the-variants as reply
+use Rattle.engine.specs.Runs.{start, stop, pause, resume, goOn, isOperating, isMoving}
+use Rattle.engine.specs.declared.control.Steered.{Steered}
 use Rattle.engine.specs.declared.state.Mode.{Mode}
 use Rattle.engine.specs.declared.state.Mode.the-variants.{Stopped, Paused, Running}
-use Rattle.engine.specs.declared.state.Pending.the-variants.{NoAlarm, Raised}
-use Rattle.dispense.specs.declared.totals.Totals.{Totals}
-use Rattle.engine.specs.declared.state.Work.{Work}
-use Rattle.engine.specs.declared.state.Work.the-variants.{Entering, Visiting, Pausing, Waiting}
+use Rattle.engine.specs.declared.state.Run.{Run}
+
+-- a command that applies, and one that does not and so changes nothing
+abbrev pub accept : Run → Steered
+accept r = record { run = r; reply = reply.Status }
+
+abbrev pub decline : Run → Reply → Steered
+decline r error = record { run = r; reply = error }
 
 -- ---- RUN: stopped, start at 1; paused, resume; U, the next phase; else it does not apply
-abbrev pub runWork : Core → Phase → Work → Obeyed
-runWork s p Entering = answered s p reply.NotApplicable
-runWork s p (Visiting v) = answered s p reply.NotApplicable
-runWork s p (Pausing left) = answered s p reply.NotApplicable
-runWork s p Waiting = answered (toNext s) p reply.Status
+abbrev pub runBy : Run → Mode → Steered
+runBy r (Stopped alarm) = accept (start 1)
+runBy r Paused = accept (resume r)
+runBy r Running = if isMoving r then decline r reply.NotApplicable else accept (goOn r)
 
-abbrev pub runBy : Core → Phase → Mode → Obeyed
-runBy s p Stopped = answered (started s 1) p reply.Status
-runBy s p Paused = answered (resumed s) p reply.Status
-runBy s p Running = runWork s p (s .run .place .work)
-
-unfoldable pub runOn : Core → Phase → Obeyed
-runOn s p = runBy s p (s .run .mode)
+unfoldable pub runOn : Run → Steered
+runOn r = runBy r (r .mode)
 
 -- ---- RUN n: stopped or paused, start afresh at n
-unfoldable pub runFrom : Core → Phase → ℕ → ℕ → Obeyed
-runFrom s p n phases =
-    if operating s
-    then answered s p reply.NotApplicable
+unfoldable pub runFrom : Run → ℕ → ℕ → Steered
+runFrom r n phases =
+    if isOperating r
+    then decline r reply.NotApplicable
     else if isPhase phases n
-    then answered (started s n) p reply.Status
-    else answered s p reply.OutOfRange
+    then accept (start n)
+    else decline r reply.OutOfRange
 
 -- ---- STP: I, W, T paused; U or paused stopped; stopped does not apply
-abbrev pub stopWork : Core → Phase → Work → Obeyed
-stopWork s p Entering = answered (paused s) p reply.Status
-stopWork s p (Visiting v) = answered (paused s) p reply.Status
-stopWork s p (Pausing left) = answered (paused s) p reply.Status
-stopWork s p Waiting = answered (stopped s) p reply.Status
+abbrev pub stopBy : Run → Mode → Steered
+stopBy r (Stopped alarm) = decline r reply.NotApplicable
+stopBy r Paused = accept (stop r)
+stopBy r Running = if isMoving r then accept (pause r) else accept (stop r)
 
-abbrev pub stopBy : Core → Phase → Mode → Obeyed
-stopBy s p Stopped = answered s p reply.NotApplicable
-stopBy s p Paused = answered (stopped s) p reply.Status
-stopBy s p Running = stopWork s p (s .run .place .work)
-
-unfoldable pub stopNow : Core → Phase → Obeyed
-stopNow s p = stopBy s p (s .run .mode)
-
--- ---- CLD: clears that total; not while operating; keeps a pause
-abbrev pub cleared : Totals → Direction → Totals
-cleared t Infuse = record { infused = 0; withdrawn = t .withdrawn }
-cleared t Withdraw = record { infused = t .infused; withdrawn = 0 }
-
-unfoldable pub clearTotal : Core → Phase → Direction → Obeyed
-clearTotal s p d =
-    if operating s then answered s p reply.NotApplicable else answered (withTotals s (cleared (s .totals) d)) p reply.Status
-
--- ---- power-up: alarm R, stopped, D 10,000, chosen phase 1, totals 0, pins high, output 0; the current phase is 1
-abbrev pub powerUpCore : Core
-powerUpCore =
-    record {
-      totals = record { infused = 0; withdrawn = 0 };
-      run = freshAt 1 (Raised PowerUp) Stopped;
-      diameter = 10_000;
-      pins = record { two = true; four = true; six = true; output = false };
-      chosen = 1;
-    }
-
--- ---- *RESET: the power-up state, but no alarm, pins as they are
-abbrev pub resetCore : Core → Core
-resetCore s =
-    record {
-      totals = record { infused = 0; withdrawn = 0 };
-      run = freshAt 1 NoAlarm Stopped;
-      diameter = 10_000;
-      pins = record { two = s .pins .two; four = s .pins .four; six = s .pins .six; output = false };
-      chosen = 1;
-    }
+unfoldable pub stopNow : Run → Steered
+stopNow r = stopBy r (r .mode)

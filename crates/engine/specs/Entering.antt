@@ -1,87 +1,92 @@
--- Entering a phase, function by function.   (01, Ticks and phases)
+-- Entering a phase, function by function: what it makes of the program under way.   (01, Ticks and phases)
 use Prim.Native.Nat.{ℕ}
 use mathlib.Core.Bool.{Bool, _&&_}
-use lib.Dec.{ltb, leb, eqb}
+use lib.Dec.{ltb, eqb}
 use Rattle.base.specs.If.{if_then_else_}
-use Rattle.answer.specs.declared.statuses.Alarm.the-variants.{Program}
-use Rattle.drive.specs.Rates.{usable}
 use Rattle.drive.specs.Syringe.{target}
-use Rattle.program.specs.declared.phases.Phase.{Phase}
-use Rattle.loops.specs.Loops.{noLoops, placeOf, openedAt, lopOf, lpeOf}
-use Rattle.engine.specs.Runs.{withRate, withLoops, withTrap, withRun, alarmed, placed, toPhase, toNext}
+use Rattle.words.specs.Functions.{pauseTicks}
+use Rattle.words.specs.declared.answers.Alarm.the-variants.{Program}
+use Rattle.words.specs.declared.functions.Function.{Function}
+use Rattle.words.specs.declared.functions.Function.the-variants as f
+use Rattle.words.specs.declared.phases.Phase.{Phase}
+use Rattle.loops.specs.Loops as loops
+use Rattle.loops.specs.declared.Began.{Began}
 use Rattle.loops.specs.declared.Turn.{Turn}
-use Rattle.engine.specs.declared.state.Core.{Core}
+use Rattle.dispense.specs.Rates.{increase, decrease, isUsableRate}
 use Rattle.dispense.specs.declared.rates.Rate.{Rate}
 use Rattle.dispense.specs.declared.rates.Rate.the-variants.{NoRate, Current}
+use Rattle.engine.specs.Runs.{withRate, withLoops, withTrap, stop, raise, doing, goTo, goOn}
+use Rattle.engine.specs.declared.state.Pins.{Pins}
+use Rattle.engine.specs.declared.state.Run.{Run}
 use Rattle.engine.specs.declared.state.Trap.the-variants.{NoTrap, Armed}
 use Rattle.engine.specs.declared.state.Work.the-variants.{Visiting, Pausing, Waiting}
 
 -- time store 0, the step target from the volume; a volume above 0 with target 0 ends at entry
-unfoldable pub begunVisit : Core → Phase → Core
-begunVisit s p =
-    if ltb 0 (p .volume) && eqb (target (s .diameter) (p .volume)) 0
-    then toNext s
-    else placed s (Visiting (record { given = 0; target = target (s .diameter) (p .volume); store = 0 })) (s .run .place .current)
+unfoldable pub beginVisit : Run → ℕ → Phase → Run
+beginVisit r d p =
+    if ltb 0 (p .volume) && eqb (target d (p .volume)) 0
+    then goOn r
+    else doing r (Visiting (record { given = 0; target = target d (p .volume); store = 0 }))
 
 -- no rate, or one that is not usable, is alarm E
-unfoldable pub enterRate : Core → Phase → Rate → Core
-enterRate s p NoRate = alarmed s Program
-enterRate s p (Current unit r) =
-    if usable (s .diameter) r unit then begunVisit (withRun s (withRate (s .run) (Current unit r))) p else alarmed s Program
+unfoldable pub enterRate : Run → ℕ → Phase → Rate → Run
+enterRate r d p rate = if isUsableRate d rate then beginVisit (withRate r rate) d p else raise r Program
 
 -- PAS: 0 ticks is the trigger wait; both drop the current rate
-unfoldable pub enterPause : Core → ℕ → Core
-enterPause s ticks =
-    placed (withRun s (withRate (s .run) NoRate)) (if eqb ticks 0 then Waiting else Pausing ticks) (s .run .place .current)
+unfoldable pub enterPause : Run → ℕ → Run
+enterPause r ticks = doing (withRate r NoRate) (if eqb ticks 0 then Waiting else Pausing ticks)
 
 -- LPS: with three still open alarm E, else one is opened
-unfoldable pub startLoop : Core → Core
-startLoop s =
-    if leb 3 (placeOf (s .run .loops) (s .run .place .current))
-    then alarmed s Program
-    else
-    toNext
-    (withRun s
-    (withLoops (s .run)
-    (openedAt (s .run .loops) (placeOf (s .run .loops) (s .run .place .current)) (record { begun = s .run .place .current; passes = 0 }))))
+abbrev pub begun : Run → Began → Run
+begun r b = if b .full then raise r Program else goOn (withLoops r (b .loops))
 
-abbrev pub turned : Core → Turn → Core
-turned s t = toPhase (withRun s (withLoops (s .run) (t .loops))) (t .next)
+unfoldable pub startLoop : Run → Run
+startLoop r = begun r (loops.lps (r .loops) (r .place .current))
+
+abbrev pub turned : Run → Turn → Run
+turned r t = goTo (withLoops r (t .loops)) (t .next)
 
 -- LOP n
-unfoldable pub passLoop : Core → ℕ → Core
-passLoop s n = turned s (lopOf (s .run .loops) n (s .run .place .current))
+unfoldable pub passLoop : Run → ℕ → Run
+passLoop r n = turned r (loops.lop (r .loops) n (r .place .current))
 
 -- LPE
-unfoldable pub endLoop : Core → Core
-endLoop s = turned s (lpeOf (s .run .loops))
+unfoldable pub endLoop : Run → Run
+endLoop r = turned r (loops.lpe (r .loops))
 
 -- IF n: jump if pin 6 is low
-unfoldable pub jumpIf : Core → ℕ → Core
-jumpIf s n = if s .pins .six then toNext s else toPhase s n
+unfoldable pub jumpIf : Run → Bool → ℕ → Run
+jumpIf r six n = if six then goOn r else goTo r n
 
 -- firing clears the trap, closes all loops, ends what is under way, and makes n the current phase, not entered; the rate stays
-unfoldable pub fired : Core → ℕ → Core
-fired s n = toPhase (withRun s (withLoops (withTrap (s .run) NoTrap) noLoops)) n
+unfoldable pub fire : Run → ℕ → Run
+fire r n = goTo (withLoops (withTrap r NoTrap) loops.none) n
 
 -- EVN n: if pin 4 is low, fire now, else set the trap
-unfoldable pub armTrap : Core → ℕ → Core
-armTrap s n = if s .pins .four then toNext (withRun s (withTrap (s .run) (Armed n))) else fired s n
+unfoldable pub armTrap : Run → Bool → ℕ → Run
+armTrap r four n = if four then goOn (withTrap r (Armed n)) else fire r n
 
 -- EVR
-unfoldable pub clearTrap : Core → Core
-clearTrap s = toNext (withRun s (withTrap (s .run) NoTrap))
+unfoldable pub clearTrap : Run → Run
+clearTrap r = goOn (withTrap r NoTrap)
 
--- OUT: 0 is low, 1 is high
-abbrev pub withOutput : Core → Bool → Core
-withOutput s level =
-    record {
-      totals = s .totals;
-      run = s .run;
-      diameter = s .diameter;
-      pins = record { two = s .pins .two; four = s .pins .four; six = s .pins .six; output = level };
-      chosen = s .chosen;
-    }
+-- each function; what BEP and OUT do beside is the tick's
+abbrev pub enterBy : Run → Pins → ℕ → Phase → Function → Run
+enterBy r pins d p f.Rat = enterRate r d p (Current (p .unit) (p .rate))
+enterBy r pins d p f.Inc = enterRate r d p (increase (r .rate) (p .rate))
+enterBy r pins d p f.Dec = enterRate r d p (decrease (r .rate) (p .rate))
+enterBy r pins d p f.Stp = stop r
+enterBy r pins d p (f.Jmp n) = goTo r n
+enterBy r pins d p (f.Lop n) = passLoop r n
+enterBy r pins d p f.Lps = startLoop r
+enterBy r pins d p f.Lpe = endLoop r
+enterBy r pins d p (f.Pas n) = enterPause r (pauseTicks (f.Pas n))
+enterBy r pins d p (f.Tenths n) = enterPause r (pauseTicks (f.Tenths n))
+enterBy r pins d p (f.If n) = jumpIf r (pins .six) n
+enterBy r pins d p (f.Evn n) = armTrap r (pins .four) n
+enterBy r pins d p f.Evr = clearTrap r
+enterBy r pins d p f.Bep = goOn r
+enterBy r pins d p (f.Out level) = goOn r
 
-unfoldable pub setOutput : Core → ℕ → Core
-setOutput s level = toNext (withOutput s (ltb 0 level))
+unfoldable pub enter : Run → Pins → ℕ → Phase → Run
+enter r pins d p = enterBy r pins d p (p .function)

@@ -1,11 +1,10 @@
--- The core of a pump's state, and what a tick, an edge and a command do to it.
+-- The core of a pump's state, and what a tick, an edge, RUN and STP do to it.
 pub mod Runs
+pub mod Control
 pub mod Entering
 pub mod Working
+pub mod Cores
 pub mod Ticks
 pub mod Edges
-pub mod Queries
-pub mod Settings
-pub mod Control
-pub mod Commands
+pub mod Statuses
 pub mod Sound

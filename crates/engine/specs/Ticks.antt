@@ -1,73 +1,59 @@
 -- One tick: it enters the current phase or works the entered one, and only I, W and T move.   (01, Ticks and phases)
-use mathlib.Core.Bool.{Bool, true, false}
-use Rattle.program.specs.Functions.{pauseTicks}
-use Rattle.program.specs.declared.functions.Function.{Function}
-use Rattle.program.specs.declared.functions.Function.the-variants as f
-use Rattle.program.specs.declared.phases.Phase.{Phase}
-use Rattle.engine.specs.Entering.{enterRate, enterPause, startLoop, passLoop, endLoop, jumpIf, armTrap, clearTrap}
-use Rattle.dispense.specs.Rates.{raised, lowered}
-use Rattle.engine.specs.Entering.{setOutput}
-use Rattle.engine.specs.Runs.{silent, stopped, toPhase, toNext}
+use mathlib.Core.Bool.{Bool, false}
+use Prim.Native.Nat.{ℕ}
+use lib.Dec.{ltb}
+use Rattle.base.specs.If.{if_then_else_}
+use Rattle.words.specs.Functions.{isBeep, isOut, datum}
+use Rattle.words.specs.declared.functions.Function.{Function}
+use Rattle.words.specs.declared.phases.Direction.{Direction}
+use Rattle.words.specs.declared.phases.Direction.the-variants.{Infuse, Withdraw}
+use Rattle.words.specs.declared.phases.Phase.{Phase}
+use Rattle.engine.specs.Cores.{withRun, withLedger, withOutput}
+use Rattle.engine.specs.Entering.{enter}
 use Rattle.engine.specs.Working.{workVisit, workPause}
 use Rattle.engine.specs.declared.state.Core.{Core}
 use Rattle.engine.specs.declared.state.Mode.{Mode}
 use Rattle.engine.specs.declared.state.Mode.the-variants.{Stopped, Paused, Running}
-use Rattle.engine.specs.declared.state.Moved.{Moved}
-use Rattle.dispense.specs.declared.rates.Rate.the-variants.{Current}
 use Rattle.engine.specs.declared.state.Work.{Work}
 use Rattle.engine.specs.declared.state.Work.the-variants.{Entering, Visiting, Pausing, Waiting}
+use Rattle.engine.specs.declared.ticks.Moved.{Moved}
+use Rattle.engine.specs.declared.working.Given.{Given}
 
--- entering a phase, by its function
-abbrev pub enterBy : Core → Phase → Function → Core
-enterBy s p f.Rat = enterRate s p (Current (p .unit) (p .rate))
-enterBy s p f.Inc = enterRate s p (raised (s .run .rate) (p .rate))
-enterBy s p f.Dec = enterRate s p (lowered (s .run .rate) (p .rate))
-enterBy s p f.Stp = stopped s
-enterBy s p (f.Jmp n) = toPhase s n
-enterBy s p (f.Lop n) = passLoop s n
-enterBy s p f.Lps = startLoop s
-enterBy s p f.Lpe = endLoop s
-enterBy s p (f.Pas n) = enterPause s (pauseTicks (f.Pas n))
-enterBy s p (f.Tenths n) = enterPause s (pauseTicks (f.Tenths n))
-enterBy s p (f.If n) = jumpIf s n
-enterBy s p (f.Evn n) = armTrap s n
-enterBy s p f.Evr = clearTrap s
-enterBy s p f.Bep = toNext s
-enterBy s p (f.Out level) = setOutput s level
+-- no step, no beep
+abbrev pub silent : Core → Moved
+silent s = record { core = s; infused = 0; withdrawn = 0; beep = false }
 
-unfoldable pub enter : Core → Phase → Core
-enter s p = enterBy s p (p .function)
+-- OUT sets the output, 0 low and 1 high, and nothing else does
+abbrev pub outputAfter : Function → Bool → Bool
+outputAfter g output = if isOut g then ltb 0 (datum g) else output
 
--- BEP beeps once, and nothing else does
-abbrev pub beeps : Function → Bool
-beeps f.Rat = false
-beeps f.Inc = false
-beeps f.Dec = false
-beeps f.Stp = false
-beeps (f.Jmp n) = false
-beeps (f.Lop n) = false
-beeps f.Lps = false
-beeps f.Lpe = false
-beeps (f.Pas n) = false
-beeps (f.Tenths n) = false
-beeps (f.If n) = false
-beeps (f.Evn n) = false
-beeps f.Evr = false
-beeps f.Bep = true
-beeps (f.Out level) = false
-
+-- entering gives no step; BEP beeps once, and nothing else does
 unfoldable pub entered : Core → Phase → Moved
-entered s p = record { core = enter s p; infused = 0; withdrawn = 0; beep = beeps (p .function) }
+entered s p =
+    record {
+      core = withOutput (withRun s (enter (s .run) (s .pins) (s .syringe .diameter) p)) (outputAfter (p .function) (s .output));
+      infused = 0;
+      withdrawn = 0;
+      beep = isBeep (p .function);
+    }
+
+-- a working tick's steps are reported in the phase's direction
+abbrev pub steps : Core → Direction → ℕ → Moved
+steps s Infuse n = record { core = s; infused = n; withdrawn = 0; beep = false }
+steps s Withdraw n = record { core = s; infused = 0; withdrawn = n; beep = false }
+
+abbrev pub worked : Core → Direction → Given → Moved
+worked s way g = steps (withLedger (withRun s (g .run)) (g .ledger)) way (g .steps)
 
 -- a running program: enter, or work; a trigger wait stays
 abbrev pub workBy : Core → Phase → Work → Moved
 workBy s p Entering = entered s p
-workBy s p (Visiting v) = workVisit s p v (s .run .rate)
-workBy s p (Pausing left) = silent (workPause s left)
+workBy s p (Visiting v) = worked s (p .direction) (workVisit (s .run) (s .ledger) (s .syringe .diameter) (p .direction) v)
+workBy s p (Pausing left) = silent (withRun s (workPause (s .run) left))
 workBy s p Waiting = silent s
 
 abbrev pub tickBy : Core → Phase → Mode → Moved
-tickBy s p Stopped = silent s
+tickBy s p (Stopped alarm) = silent s
 tickBy s p Paused = silent s
 tickBy s p Running = workBy s p (s .run .place .work)
 

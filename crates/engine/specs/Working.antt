@@ -1,73 +1,63 @@
 -- Working an entered phase: a tick of a visit, a tick of a timed pause.   (01, Ticks and phases, RAT and PAS; Volumes)
 use Prim.Native.Nat.{ℕ, _+_, _-_, _*_, _≤_}
 use mathlib.Core.Path.{_≡_}
-use mathlib.Core.Bool.{false}
 use lib.Dec.{leb}
 use Rattle.base.specs.If.{if_then_else_}
-use Rattle.answer.specs.declared.statuses.Alarm.the-variants.{Program}
 use Rattle.drive.specs.Rates.{hourly, mostRate}
 use Rattle.drive.specs.Syringe.{mostDiameter, stepVolume, threshold}
-use Rattle.program.specs.declared.phases.Direction.{Direction}
-use Rattle.program.specs.declared.phases.Direction.the-variants.{Infuse, Withdraw}
-use Rattle.program.specs.declared.phases.Phase.{Phase}
-use Rattle.dispense.specs.Rates.{ratio}
-use Rattle.engine.specs.Runs.{silent, alarmed, placed, toNext}
-use Rattle.dispense.specs.Visits.{Working, stepsOf, workedOf, doneOf}
-use Rattle.engine.specs.declared.state.Core.{Core}
-use Rattle.engine.specs.declared.state.Moved.{Moved}
+use Rattle.words.specs.declared.answers.Alarm.the-variants.{Program}
+use Rattle.words.specs.declared.phases.Direction.{Direction}
+use Rattle.dispense.specs.Ledgers.{mostTotal, totalOf, book}
+use Rattle.dispense.specs.Rates.{thousandths}
+use Rattle.dispense.specs.Visits.{Working, stepsOf, workedOf, isDone}
+use Rattle.dispense.specs.declared.ledgers.Ledger.{Ledger}
 use Rattle.dispense.specs.declared.rates.Rate.{Rate}
 use Rattle.dispense.specs.declared.rates.Rate.the-variants.{NoRate, Current}
-use Rattle.dispense.specs.declared.totals.Totals.{Totals}
-use Rattle.engine.specs.declared.state.Work.the-variants.{Visiting, Pausing}
 use Rattle.dispense.specs.declared.visits.Visit.{Visit}
-use Rattle.dispense.specs.Totals.{mostTotal, totalOf, booked}
-
-abbrev pub withTotals : Core → Totals → Core
-withTotals s t = record { totals = t; run = s .run; diameter = s .diameter; pins = s .pins; chosen = s .chosen }
-
--- what a working tick of a visit may rely on
-pub record Giving (s : Core) (p : Phase) (v : Visit) (hourly : ℕ) : Type 0 where
-  pub high : s .diameter ≤ mostDiameter
-  pub here : s .run .place .current ≤ 100
-  pub total : totalOf (s .totals) (p .direction) ≤ mostTotal
-  pub works : Working v hourly (threshold (s .diameter))
-
--- the volume of the steps that a working tick gives
-unfoldable pub doseOf : Core → Visit → ℕ → ℕ
-doseOf s v hourly = stepsOf v hourly (threshold (s .diameter)) * stepVolume (s .diameter)
+use Rattle.engine.specs.Runs.{raise, doing, goOn}
+use Rattle.engine.specs.declared.state.Run.{Run}
+use Rattle.engine.specs.declared.state.Work.the-variants.{Visiting, Pausing}
+use Rattle.engine.specs.declared.working.Given.{Given}
 
 -- reaching the target ends the visit; however it ends, the time store goes with it
-unfoldable pub afterVisit : Core → Visit → Core
-afterVisit s v = if doneOf v then toNext s else placed s (Visiting v) (s .run .place .current)
+unfoldable pub afterVisit : Run → Visit → Run
+afterVisit r v = if isDone v then goOn r else doing r (Visiting v)
 
--- the steps' volume is booked in the phase's direction
-unfoldable pub afterDose : Core → Phase → Visit → ℕ → Core
-afterDose s p v hourly =
-    afterVisit (withTotals s (booked (s .totals) (p .direction) (doseOf s v hourly))) (workedOf v hourly (threshold (s .diameter)))
+-- the volume of the steps that a working tick gives
+unfoldable pub doseOf : ℕ → Visit → ℕ → ℕ
+doseOf d v hourly = stepsOf v hourly (threshold d) * stepVolume d
 
--- and the steps are reported in it
-abbrev pub stepping : Core → Direction → ℕ → Moved
-stepping s Infuse n = record { core = s; infused = n; withdrawn = 0; beep = false }
-stepping s Withdraw n = record { core = s; infused = 0; withdrawn = n; beep = false }
-
-unfoldable pub given : Core → Phase → Visit → ℕ → Moved
-given s p v hourly = stepping (afterDose s p v hourly) (p .direction) (stepsOf v hourly (threshold (s .diameter)))
-
--- if the total would pass its limit: no step, and alarm E
-unfoldable pub giveSteps : Core → Phase → Visit → ℕ → Moved
-giveSteps s p v hourly =
-    if leb (totalOf (s .totals) (p .direction) + doseOf s v hourly) mostTotal then given s p v hourly else silent (alarmed s Program)
+-- the steps' volume is booked in the phase's direction; if the total would pass its limit: no step, and alarm E
+unfoldable pub giveSteps : Run → Ledger → ℕ → Direction → Visit → ℕ → Given
+giveSteps r l d way v hourly =
+    if leb (totalOf l way + doseOf d v hourly) mostTotal
+    then
+    record {
+      run = afterVisit r (workedOf v hourly (threshold d));
+      ledger = book l way (doseOf d v hourly);
+      steps = stepsOf v hourly (threshold d);
+    }
+    else record { run = raise r Program; ledger = l; steps = 0 }
 
 -- at the current rate; a sound visit has one
-unfoldable pub workVisit : Core → Phase → Visit → Rate → Moved
-workVisit s p v NoRate = silent s
-workVisit s p v (Current unit r) = giveSteps s p v (hourly r unit)
+abbrev pub workAt : Run → Ledger → ℕ → Direction → Visit → Rate → Given
+workAt r l d way v NoRate = record { run = r; ledger = l; steps = 0 }
+workAt r l d way v (Current unit x) = giveSteps r l d way v (hourly x unit)
 
--- what that may rely on
-pub record AtRate (s : Core) (p : Phase) (v : Visit) (rate : Rate) : Type 0 where
-  pub small : ratio rate ≤ mostRate
-  pub gives : (r : ℕ) (unit : _) → rate ≡ Current unit r → Giving s p v (hourly r unit)
+unfoldable pub workVisit : Run → Ledger → ℕ → Direction → Visit → Given
+workVisit r l d way v = workAt r l d way v (r .rate)
 
 -- a timed pause ends on its last tick
-unfoldable pub workPause : Core → ℕ → Core
-workPause s left = if leb left 1 then toNext s else placed s (Pausing (left - 1)) (s .run .place .current)
+unfoldable pub workPause : Run → ℕ → Run
+workPause r left = if leb left 1 then goOn r else doing r (Pausing (left - 1))
+
+-- ---- what the code of a working tick may rely on
+pub record Giving (r : Run) (l : Ledger) (d : ℕ) (way : Direction) (v : Visit) (hourly : ℕ) : Type 0 where
+  pub high : d ≤ mostDiameter
+  pub here : r .place .current ≤ 100
+  pub total : totalOf l way ≤ mostTotal
+  pub works : Working v hourly (threshold d)
+
+pub record AtRate (r : Run) (l : Ledger) (d : ℕ) (way : Direction) (v : Visit) : Type 0 where
+  pub small : thousandths (r .rate) ≤ mostRate
+  pub gives : (x : ℕ) (unit : _) → r .rate ≡ Current unit x → Giving r l d way v (hourly x unit)

@@ -1,160 +1,161 @@
-// Entering a phase, function by function. Entering does no work: a visit's first step comes with a later tick.
+// Entering a phase, function by function. Entering does no work: a visit's first step comes with a later tick. It changes the program
+// under way alone; the beep of BEP and the level of OUT are the tick's.
 ghost use mathlib.Core.Path.{_≡_};
 ghost use Prim.Native.Nat.{_≤_};
-ghost use Rattle.engine.specs.Entering.{begunVisit, enterRate, enterPause, startLoop, passLoop, endLoop, jumpIf, fired, armTrap};
-ghost use Rattle.engine.specs.Entering.{clearTrap, setOutput};
+ghost use Rattle.engine.specs.Entering.{beginVisit, enterRate, enterPause, startLoop, passLoop, endLoop, jumpIf, fire, armTrap};
+ghost use Rattle.engine.specs.Entering.{clearTrap, enter};
+ghost use Rattle.engine.specs.Sound.{Enterable};
 ghost use Rattle.loops.specs.Loops.{Turning};
-use crate::state::Core;
+use crate::state::Pins;
+use crate::state::Run;
 use crate::state::Trap;
 use crate::state::Work;
-use answer::Alarm;
 use dispense::Rate;
 use dispense::Visit;
-use loops::Loop;
 use loops::Loops;
-use program::Phase;
+use words::Alarm;
+use words::Function;
+use words::Phase;
 
-impl Core {
-    // RAT, INC and DEC, with the rate that is to be the current one.
-    pub fn enter_rate(self, here: Phase, rate: Rate) -> Core
-        requires { ⌜ self .run .place .current ≤ 100 ⌝ }
-        ensures { λ r. ⌜ r ≡ enterRate self here rate ⌝ }
+impl Run {
+    // RAT, INC and DEC meet in one call, so that the compiler takes it in here and keeps the run in registers.
+    pub fn enter(self, pins: Pins, d: u16, here: Phase) -> Run
+        requires { ⌜ Enterable self ⌝ }
+        ensures { λ r. ⌜ r ≡ enter self pins d here ⌝ }
     {
-        match rate {
-            Rate::NoRate => self.alarmed(Alarm::Program),
-            Rate::Current(unit, r) => {
-                if drive::is_usable(self.diameter, r, unit) {
-                    let run = self.run;
-                    return self.with_run(run.with_rate(rate)).begin_visit(here);
-                }
-                self.alarmed(Alarm::Program)
-            }
+        let function = here.function;
+        let unit = here.unit;
+        let current = self.rate;
+        let rate = match function {
+            Function::Rat => Rate::Current(unit, here.rate),
+            Function::Inc => current.increase(here.rate),
+            Function::Dec => current.decrease(here.rate),
+            Function::Stp => return self.stop(),
+            Function::Jmp(n) => return self.go_to(n),
+            Function::Lop(n) => return self.pass_loop(n),
+            Function::Lps => return self.start_loop(),
+            Function::Lpe => return self.end_loop(),
+            Function::Pas(_) => return self.enter_pause(function.pause_ticks()),
+            Function::Tenths(_) => return self.enter_pause(function.pause_ticks()),
+            Function::If(n) => return self.jump_if(pins.six, n),
+            Function::Evn(n) => return self.arm_trap(pins.four, n),
+            Function::Evr => return self.clear_trap(),
+            Function::Bep => return self.go_on(),
+            Function::Out(_) => return self.go_on(),
+        };
+        self.enter_rate(d, here, rate)
+    }
+
+    // RAT, INC and DEC, with the rate that is to be the current one.
+    fn enter_rate(self, d: u16, here: Phase, rate: Rate) -> Run
+        requires { ⌜ self .place .current ≤ 100 ⌝ }
+        ensures { λ r. ⌜ r ≡ enterRate self d here rate ⌝ }
+    {
+        if rate.is_usable(d) {
+            return self.with_rate(rate).begin_visit(d, here);
         }
+        self.raise(Alarm::Program)
     }
 
     // A visit under way from here, or one that ends at entry: a volume too small for a step.
-    pub fn begin_visit(self, here: Phase) -> Core
-        requires { ⌜ self .run .place .current ≤ 100 ⌝ }
-        ensures { λ r. ⌜ r ≡ begunVisit self here ⌝ }
+    fn begin_visit(self, d: u16, here: Phase) -> Run
+        requires { ⌜ self .place .current ≤ 100 ⌝ }
+        ensures { λ r. ⌜ r ≡ beginVisit self d here ⌝ }
     {
-        let target = drive::step_target(self.diameter, here.volume);
+        let target = drive::step_target(d, here.volume);
         if (0 < here.volume) & (target == 0) {
-            return self.to_next();
+            return self.go_on();
         }
         let visit = Visit {
             given: 0,
             target: target,
             store: 0,
         };
-        let n = self.run.place.current;
-        self.placed(Work::Visiting(visit), n)
+        self.doing(Work::Visiting(visit))
     }
 
     // PAS: timed, or the trigger wait. Both drop the current rate.
-    pub fn enter_pause(self, ticks: u32) -> Core
+    fn enter_pause(self, ticks: u32) -> Run
         ensures { λ r. ⌜ r ≡ enterPause self ticks ⌝ }
     {
-        let run = self.run;
-        let n = self.run.place.current;
-        let unrated = self.with_run(run.with_rate(Rate::NoRate));
+        let unrated = self.with_rate(Rate::NoRate);
         if ticks == 0 {
-            return unrated.placed(Work::Waiting, n);
+            return unrated.doing(Work::Waiting);
         }
-        unrated.placed(Work::Pausing(ticks), n)
+        unrated.doing(Work::Pausing(ticks))
     }
 
     // LPS
-    pub fn start_loop(self) -> Core
-        requires { ⌜ self .run .place .current ≤ 100 ⌝ }
+    fn start_loop(self) -> Run
+        requires { ⌜ self .place .current ≤ 100 ⌝ }
         ensures { λ r. ⌜ r ≡ startLoop self ⌝ }
     {
-        let run = self.run;
-        let loops = run.loops;
-        let n = self.run.place.current;
-        let keep = loops.place(n);
-        if 3 <= keep {
-            return self.alarmed(Alarm::Program);
+        let loops = self.loops;
+        let began = loops.lps(self.place.current);
+        if began.full {
+            return self.raise(Alarm::Program);
         }
-        let newest = Loop {
-            begun: n,
-            passes: 0,
-        };
-        self.with_run(run.with_loops(loops.opened_at(keep, newest)))
-            .to_next()
+        let after = began.loops;
+        self.with_loops(after).go_on()
     }
 
     // LOP n
-    pub fn pass_loop(self, n: u8) -> Core
-        requires { ⌜ Turning (self .run .loops) (self .run .place .current) ⌝ }
+    fn pass_loop(self, n: u8) -> Run
+        requires { ⌜ Turning (self .loops) (self .place .current) ⌝ }
         ensures { λ r. ⌜ r ≡ passLoop self n ⌝ }
     {
-        let run = self.run;
-        let loops = run.loops;
-        let turn = loops.lop(n, self.run.place.current);
+        let loops = self.loops;
+        let turn = loops.lop(n, self.place.current);
         let after = turn.loops;
-        self.with_run(run.with_loops(after)).to_phase(turn.next)
+        self.with_loops(after).go_to(turn.next)
     }
 
     // LPE
-    pub fn end_loop(self) -> Core
-        requires { ⌜ Turning (self .run .loops) (self .run .place .current) ⌝ }
+    fn end_loop(self) -> Run
+        requires { ⌜ Turning (self .loops) (self .place .current) ⌝ }
         ensures { λ r. ⌜ r ≡ endLoop self ⌝ }
     {
-        let run = self.run;
-        let loops = run.loops;
+        let loops = self.loops;
         let turn = loops.lpe();
         let after = turn.loops;
-        self.with_run(run.with_loops(after)).to_phase(turn.next)
+        self.with_loops(after).go_to(turn.next)
     }
 
     // IF n: pin 6 low jumps.
-    pub fn jump_if(self, n: u8) -> Core
-        requires { ⌜ self .run .place .current ≤ 100 ⌝ }
-        ensures { λ r. ⌜ r ≡ jumpIf self n ⌝ }
+    fn jump_if(self, six: bool, n: u8) -> Run
+        requires { ⌜ self .place .current ≤ 100 ⌝ }
+        ensures { λ r. ⌜ r ≡ jumpIf self six n ⌝ }
     {
-        if self.pins.six {
-            return self.to_next();
+        if six {
+            return self.go_on();
         }
-        self.to_phase(n)
+        self.go_to(n)
     }
 
     // A trap fires: the current rate stays.
-    pub fn fired(self, n: u8) -> Core
-        ensures { λ r. ⌜ r ≡ fired self n ⌝ }
+    pub fn fire(self, n: u8) -> Run
+        ensures { λ r. ⌜ r ≡ fire self n ⌝ }
     {
-        let run = self.run;
-        self.with_run(run.with_trap(Trap::NoTrap).with_loops(Loops::none()))
-            .to_phase(n)
+        let sprung = self.with_trap(Trap::NoTrap);
+        sprung.with_loops(Loops::none()).go_to(n)
     }
 
     // EVN n: with pin 4 low the trap fires now, else it is set.
-    pub fn arm_trap(self, n: u8) -> Core
-        requires { ⌜ self .run .place .current ≤ 100 ⌝ }
-        ensures { λ r. ⌜ r ≡ armTrap self n ⌝ }
+    fn arm_trap(self, four: bool, n: u8) -> Run
+        requires { ⌜ self .place .current ≤ 100 ⌝ }
+        ensures { λ r. ⌜ r ≡ armTrap self four n ⌝ }
     {
-        if self.pins.four {
-            let run = self.run;
-            return self.with_run(run.with_trap(Trap::Armed(n))).to_next();
+        if four {
+            return self.with_trap(Trap::Armed(n)).go_on();
         }
-        self.fired(n)
+        self.fire(n)
     }
 
     // EVR
-    pub fn clear_trap(self) -> Core
-        requires { ⌜ self .run .place .current ≤ 100 ⌝ }
+    fn clear_trap(self) -> Run
+        requires { ⌜ self .place .current ≤ 100 ⌝ }
         ensures { λ r. ⌜ r ≡ clearTrap self ⌝ }
     {
-        let run = self.run;
-        self.with_run(run.with_trap(Trap::NoTrap)).to_next()
-    }
-
-    // OUT
-    pub fn set_output(mut self, level: u8) -> Core
-        requires { ⌜ self .run .place .current ≤ 100 ⌝ }
-        ensures { λ r. ⌜ r ≡ setOutput self level ⌝ }
-    {
-        let high = 0 < level;
-        self.pins.output = high;
-        self.to_next()
+        self.with_trap(Trap::NoTrap).go_on()
     }
 }

@@ -1,23 +1,144 @@
 // The program under way: its parts replaced, and what starting, stopping, pausing and moving on make of it.
 ghost use mathlib.Core.Path.{_≡_};
 ghost use Prim.Native.Nat.{_≤_};
-ghost use Rattle.engine.specs.Runs.{at, withRate, withLoops, withTrap, withMode, freshAt, withRun, placed, toPhase, toNext};
-ghost use Rattle.engine.specs.Runs.{started, stopped, alarmed, paused, resumed, silent};
-use crate::state::Core;
+ghost use Rattle.engine.specs.Runs.{withPlace, withRate, withLoops, withTrap, withMode, freshAt, start, stop, raise, pause};
+ghost use Rattle.engine.specs.Runs.{resume, doing, goTo, goOn, isOperating, isMoving, pending, clearAlarm};
 use crate::state::Mode;
-use crate::state::Moved;
 use crate::state::Pending;
 use crate::state::Place;
 use crate::state::Run;
 use crate::state::Trap;
 use crate::state::Work;
-use answer::Alarm;
 use dispense::Rate;
 use loops::Loops;
+use words::Alarm;
 
 impl Run {
-    pub fn at(mut self, place: Place) -> Run
-        ensures { λ r. ⌜ r ≡ at self place ⌝ }
+    // Nothing under way, at a phase that is not entered.
+    pub fn fresh_at(current: u8, mode: Mode) -> Run
+        ensures { λ r. ⌜ r ≡ freshAt current mode ⌝ }
+    {
+        Run {
+            place: Place {
+                work: Work::Entering,
+                current: current,
+            },
+            rate: Rate::NoRate,
+            loops: Loops::none(),
+            mode: mode,
+            trap: Trap::NoTrap,
+        }
+    }
+
+    // RUN at a phase: nothing of an earlier run stays.
+    pub fn start(n: u8) -> Run
+        ensures { λ r. ⌜ r ≡ start n ⌝ }
+    {
+        Run::fresh_at(n, Mode::Running)
+    }
+
+    // A stopped pump keeps its current phase and nothing else of the program.
+    pub fn stop(self) -> Run
+        ensures { λ r. ⌜ r ≡ stop self ⌝ }
+    {
+        Run::fresh_at(self.place.current, Mode::Stopped(Pending::NoAlarm))
+    }
+
+    // An alarm stops the pump.
+    pub fn raise(self, alarm: Alarm) -> Run
+        ensures { λ r. ⌜ r ≡ raise self alarm ⌝ }
+    {
+        Run::fresh_at(self.place.current, Mode::Stopped(Pending::Raised(alarm)))
+    }
+
+    pub fn pause(self) -> Run
+        ensures { λ r. ⌜ r ≡ pause self ⌝ }
+    {
+        self.with_mode(Mode::Paused)
+    }
+
+    pub fn resume(self) -> Run
+        ensures { λ r. ⌜ r ≡ resume self ⌝ }
+    {
+        self.with_mode(Mode::Running)
+    }
+
+    // The current phase does something else.
+    pub fn doing(self, work: Work) -> Run
+        ensures { λ r. ⌜ r ≡ doing self work ⌝ }
+    {
+        let n = self.place.current;
+        self.with_place(Place {
+            work: work,
+            current: n,
+        })
+    }
+
+    // Phase n is the current one, not entered.
+    pub fn go_to(self, n: u8) -> Run
+        ensures { λ r. ⌜ r ≡ goTo self n ⌝ }
+    {
+        self.with_place(Place {
+            work: Work::Entering,
+            current: n,
+        })
+    }
+
+    // On to the next phase.
+    pub fn go_on(self) -> Run
+        requires { ⌜ self .place .current ≤ 100 ⌝ }
+        ensures { λ r. ⌜ r ≡ goOn self ⌝ }
+    {
+        let n = self.place.current;
+        self.go_to(n + 1)
+    }
+
+    // Operating means I, W, T or U.
+    pub fn is_operating(self) -> bool
+        ensures { λ r. ⌜ r ≡ isOperating self ⌝ }
+    {
+        let mode = self.mode;
+        match mode {
+            Mode::Stopped(_) => false,
+            Mode::Paused => false,
+            Mode::Running => true,
+        }
+    }
+
+    // I, W and T: these alone move with ticks.
+    pub fn is_moving(self) -> bool
+        ensures { λ r. ⌜ r ≡ isMoving self ⌝ }
+    {
+        let place = self.place;
+        let work = place.work;
+        self.is_operating() & !work.is_waiting()
+    }
+
+    pub fn pending(self) -> Pending
+        ensures { λ r. ⌜ r ≡ pending self ⌝ }
+    {
+        let mode = self.mode;
+        match mode {
+            Mode::Stopped(alarm) => alarm,
+            Mode::Paused => Pending::NoAlarm,
+            Mode::Running => Pending::NoAlarm,
+        }
+    }
+
+    // The alarm is told, and no longer pending.
+    pub fn clear_alarm(self) -> Run
+        ensures { λ r. ⌜ r ≡ clearAlarm self ⌝ }
+    {
+        let mode = self.mode;
+        match mode {
+            Mode::Stopped(_) => self.with_mode(Mode::Stopped(Pending::NoAlarm)),
+            Mode::Paused => self,
+            Mode::Running => self,
+        }
+    }
+
+    pub fn with_place(mut self, place: Place) -> Run
+        ensures { λ r. ⌜ r ≡ withPlace self place ⌝ }
     {
         self.place = place;
         self
@@ -30,158 +151,42 @@ impl Run {
         self
     }
 
+    // A field that is an enum cannot be stored to: the struct is made anew.
     pub fn with_rate(self, rate: Rate) -> Run
         ensures { λ r. ⌜ r ≡ withRate self rate ⌝ }
     {
-        let place = self.place;
-        let loops = self.loops;
-        let trap = self.trap;
-        let alarm = self.alarm;
         let mode = self.mode;
-        Run {
-            place: place,
-            rate: rate,
-            loops: loops,
-            trap: trap,
-            alarm: alarm,
-            mode: mode,
-        }
+        let trap = self.trap;
+        self.with_enums(rate, mode, trap)
     }
 
     pub fn with_trap(self, trap: Trap) -> Run
         ensures { λ r. ⌜ r ≡ withTrap self trap ⌝ }
     {
-        let place = self.place;
         let rate = self.rate;
-        let loops = self.loops;
-        let alarm = self.alarm;
         let mode = self.mode;
-        Run {
-            place: place,
-            rate: rate,
-            loops: loops,
-            trap: trap,
-            alarm: alarm,
-            mode: mode,
-        }
+        self.with_enums(rate, mode, trap)
     }
 
-    pub fn with_mode(self, mode: Mode) -> Run
+    fn with_mode(self, mode: Mode) -> Run
         ensures { λ r. ⌜ r ≡ withMode self mode ⌝ }
     {
-        let place = self.place;
         let rate = self.rate;
-        let loops = self.loops;
         let trap = self.trap;
-        let alarm = self.alarm;
+        self.with_enums(rate, mode, trap)
+    }
+
+    fn with_enums(self, rate: Rate, mode: Mode, trap: Trap) -> Run
+        ensures { λ r. ⌜ r ≡ withMode (withTrap (withRate self rate) trap) mode ⌝ }
+    {
+        let place = self.place;
+        let loops = self.loops;
         Run {
             place: place,
             rate: rate,
             loops: loops,
+            mode: mode,
             trap: trap,
-            alarm: alarm,
-            mode: mode,
-        }
-    }
-
-    // Nothing under way, at a phase that is not entered.
-    pub fn fresh(current: u8, alarm: Pending, mode: Mode) -> Run
-        ensures { λ r. ⌜ r ≡ freshAt current alarm mode ⌝ }
-    {
-        Run {
-            place: Place {
-                work: Work::Entering,
-                current: current,
-            },
-            rate: Rate::NoRate,
-            loops: Loops::none(),
-            trap: Trap::NoTrap,
-            alarm: alarm,
-            mode: mode,
-        }
-    }
-}
-
-impl Core {
-    pub fn with_run(mut self, run: Run) -> Core
-        ensures { λ r. ⌜ r ≡ withRun self run ⌝ }
-    {
-        self.run = run;
-        self
-    }
-
-    // The program stands elsewhere, or does something else.
-    pub fn placed(self, work: Work, current: u8) -> Core
-        ensures { λ r. ⌜ r ≡ placed self work current ⌝ }
-    {
-        let run = self.run;
-        let place = Place {
-            work: work,
-            current: current,
-        };
-        self.with_run(run.at(place))
-    }
-
-    // Phase n is the current one, not entered.
-    pub fn to_phase(self, n: u8) -> Core
-        ensures { λ r. ⌜ r ≡ toPhase self n ⌝ }
-    {
-        self.placed(Work::Entering, n)
-    }
-
-    pub fn to_next(self) -> Core
-        requires { ⌜ self .run .place .current ≤ 100 ⌝ }
-        ensures { λ r. ⌜ r ≡ toNext self ⌝ }
-    {
-        let n = self.run.place.current;
-        self.to_phase(n + 1)
-    }
-
-    pub fn started(self, n: u8) -> Core
-        ensures { λ r. ⌜ r ≡ started self n ⌝ }
-    {
-        self.with_run(Run::fresh(n, Pending::NoAlarm, Mode::Running))
-    }
-
-    // A stopped pump keeps its current phase and nothing else of the program.
-    pub fn stopped(self) -> Core
-        ensures { λ r. ⌜ r ≡ stopped self ⌝ }
-    {
-        let n = self.run.place.current;
-        self.with_run(Run::fresh(n, Pending::NoAlarm, Mode::Stopped))
-    }
-
-    // An alarm stops the pump.
-    pub fn alarmed(self, alarm: Alarm) -> Core
-        ensures { λ r. ⌜ r ≡ alarmed self alarm ⌝ }
-    {
-        let n = self.run.place.current;
-        self.with_run(Run::fresh(n, Pending::Raised(alarm), Mode::Stopped))
-    }
-
-    pub fn paused(self) -> Core
-        ensures { λ r. ⌜ r ≡ paused self ⌝ }
-    {
-        let run = self.run;
-        self.with_run(run.with_mode(Mode::Paused))
-    }
-
-    pub fn resumed(self) -> Core
-        ensures { λ r. ⌜ r ≡ resumed self ⌝ }
-    {
-        let run = self.run;
-        self.with_run(run.with_mode(Mode::Running))
-    }
-
-    // A tick that gives no step and does not beep.
-    pub fn silent(self) -> Moved
-        ensures { λ r. ⌜ r ≡ silent self ⌝ }
-    {
-        Moved {
-            core: self,
-            infused: 0,
-            withdrawn: 0,
-            beep: false,
         }
     }
 }

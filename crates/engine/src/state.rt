@@ -1,9 +1,10 @@
-// The core of the state: small structs, nested, so that a rule alters one part and carries the rest whole.
-use answer::Alarm;
+// The core of the state: small structs, nested, so that a rule takes and returns the part that it may change.
+use dispense::Ledger;
 use dispense::Rate;
-use dispense::Totals;
 use dispense::Visit;
+use drive::Syringe;
 use loops::Loops;
+use words::Alarm;
 
 // What the current phase is doing: it is entered where a visit, a timed pause (with its ticks left) or a trigger wait is under way.
 pub enum Work {
@@ -25,48 +26,40 @@ pub enum Trap {
     Armed(u8),
 }
 
-pub enum Mode {
-    Stopped,
-    Paused,
-    Running,
-}
-
 pub enum Pending {
     NoAlarm,
     Raised(Alarm),
 }
 
-// The program under way: starting, stopping and alarms replace it whole. The loops' seven bytes and the mode make eight, which the
-// compiler carries as one number.
+// An alarm is pending only in a stopped pump.
+pub enum Mode {
+    Stopped(Pending),
+    Paused,
+    Running,
+}
+
+// The program under way: starting, stopping and alarms replace it whole.
 pub struct Run {
     pub place: Place,
     pub rate: Rate,
     pub loops: Loops,
     pub mode: Mode,
     pub trap: Trap,
-    pub alarm: Pending,
 }
 
-// The levels: true is high. The output's level stands beside those of the pins.
+// The levels: true is high.
 pub struct Pins {
     pub two: bool,
     pub four: bool,
     pub six: bool,
-    pub output: bool,
 }
 
+// All that is neither a phase nor the line. `output` is the level that OUT sets, `chosen` the phase that PHN chose.
 pub struct Core {
-    pub totals: Totals,
+    pub ledger: Ledger,
     pub run: Run,
-    pub diameter: u16,
+    pub syringe: Syringe,
     pub pins: Pins,
+    pub output: bool,
     pub chosen: u8,
-}
-
-// What a tick does: the next core, the steps in each direction, and whether it beeps.
-pub struct Moved {
-    pub core: Core,
-    pub infused: u8,
-    pub withdrawn: u8,
-    pub beep: bool,
 }

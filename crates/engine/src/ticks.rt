@@ -1,17 +1,25 @@
 // One tick: it enters the current phase or works the entered one; nothing moves unless the program runs.
 ghost use mathlib.Core.Path.{_≡_};
-ghost use Rattle.engine.specs.Ticks.{beeps, enter, entered, tickOf};
-ghost use Rattle.engine.specs.Sound.{Ready};
+ghost use Rattle.engine.specs.Sound.{Ready, Enterable};
+ghost use Rattle.engine.specs.Ticks.{outputAfter, entered, worked, silent, tickOf};
 use crate::state::Core;
 use crate::state::Mode;
-use crate::state::Moved;
 use crate::state::Work;
-use dispense::Rate;
-use program::Function;
-use program::Phase;
+use crate::working::Given;
+use words::Direction;
+use words::Function;
+use words::Phase;
+
+// What a tick does: the next core, the steps in each direction, and whether it beeps.
+pub struct Moved {
+    pub core: Core,
+    pub infused: u8,
+    pub withdrawn: u8,
+    pub beep: bool,
+}
 
 impl Core {
-    // A tick, with the current phase in hand.
+    // A tick, with the current phase in hand, in a pump of so many phases.
     pub fn tick(self, here: Phase, phases: u8) -> Moved
         requires { ⌜ Ready phases self here ⌝ }
         ensures { λ r. ⌜ r ≡ tickOf self here ⌝ }
@@ -20,68 +28,86 @@ impl Core {
         let place = run.place;
         let mode = run.mode;
         let work = place.work;
-        let rate = run.rate;
+        let ledger = self.ledger;
+        let direction = here.direction;
         match mode {
-            Mode::Stopped => self.silent(),
+            Mode::Stopped(_) => self.silent(),
             Mode::Paused => self.silent(),
             Mode::Running => match work {
-                Work::Entering => self.entered(here, phases),
-                Work::Visiting(visit) => self.work_visit(here, visit, rate),
-                Work::Pausing(left) => self.work_pause(left).silent(),
+                Work::Entering => self.entered(here),
+                Work::Visiting(visit) => self.worked(
+                    direction,
+                    run.work_visit(ledger, self.syringe.diameter, direction, visit),
+                ),
+                Work::Pausing(left) => self.with_run(run.work_pause(left)).silent(),
                 Work::Waiting => self.silent(),
             },
         }
     }
 
-    // Entering gives no step, and only BEP beeps.
-    fn entered(self, here: Phase, phases: u8) -> Moved
-        requires { ⌜ Ready phases self here ⌝ }
+    // Entering gives no step; only BEP beeps, and only OUT sets the output.
+    fn entered(mut self, here: Phase) -> Moved
+        requires { ⌜ Enterable (self .run) ⌝ }
         ensures { λ r. ⌜ r ≡ entered self here ⌝ }
     {
         let function = here.function;
+        let run = self.run;
+        let pins = self.pins;
+        let after = run.enter(pins, self.syringe.diameter, here);
+        let output = output_after(function, self.output);
+        self.run = after;
+        self.output = output;
         Moved {
-            core: self.enter(here, phases),
+            core: self,
             infused: 0,
             withdrawn: 0,
-            beep: is_beep(function),
+            beep: function.is_beep(),
         }
     }
 
-    // RAT, INC and DEC meet in one call, so that the compiler takes it in here and keeps the core in registers.
-    fn enter(self, here: Phase, phases: u8) -> Core
-        requires { ⌜ Ready phases self here ⌝ }
-        ensures { λ r. ⌜ r ≡ enter self here ⌝ }
+    // A working tick's steps are reported in the phase's direction.
+    fn worked(mut self, direction: Direction, given: Given) -> Moved
+        ensures { λ r. ⌜ r ≡ worked self direction given ⌝ }
     {
-        let function = here.function;
-        let unit = here.unit;
-        let run = self.run;
-        let current = run.rate;
-        let rate = match function {
-            Function::Rat => Rate::Current(unit, here.rate),
-            Function::Inc => current.raised_by(here.rate),
-            Function::Dec => current.lowered_by(here.rate),
-            Function::Stp => return self.stopped(),
-            Function::Jmp(n) => return self.to_phase(n),
-            Function::Lop(n) => return self.pass_loop(n),
-            Function::Lps => return self.start_loop(),
-            Function::Lpe => return self.end_loop(),
-            Function::Pas(_) => return self.enter_pause(function.pause_ticks()),
-            Function::Tenths(_) => return self.enter_pause(function.pause_ticks()),
-            Function::If(n) => return self.jump_if(n),
-            Function::Evn(n) => return self.arm_trap(n),
-            Function::Evr => return self.clear_trap(),
-            Function::Bep => return self.to_next(),
-            Function::Out(level) => return self.set_output(level),
-        };
-        self.enter_rate(here, rate)
+        let run = given.run;
+        let ledger = given.ledger;
+        self.run = run;
+        self.ledger = ledger;
+        match direction {
+            Direction::Infuse => Moved {
+                core: self,
+                infused: given.steps,
+                withdrawn: 0,
+                beep: false,
+            },
+            Direction::Withdraw => Moved {
+                core: self,
+                infused: 0,
+                withdrawn: given.steps,
+                beep: false,
+            },
+        }
+    }
+
+    // A tick that gives no step and does not beep.
+    pub fn silent(self) -> Moved
+        ensures { λ r. ⌜ r ≡ silent self ⌝ }
+    {
+        Moved {
+            core: self,
+            infused: 0,
+            withdrawn: 0,
+            beep: false,
+        }
     }
 }
 
-fn is_beep(function: Function) -> bool
-    ensures { λ r. ⌜ r ≡ beeps function ⌝ }
+// OUT sets the level, and nothing else does.
+fn output_after(function: Function, output: bool) -> bool
+    ensures { λ r. ⌜ r ≡ outputAfter function output ⌝ }
 {
-    match function {
-        Function::Bep => true,
-        _ => false,
+    if function.is_out() {
+        return 0 < function.datum();
     }
+    output
 }

@@ -6,15 +6,17 @@ use mathlib.Core.Path.{_≡_, refl, sym, ap, ap₂, _∙_}
 use mathlib.Core.List.{List, [], _∷_, _++_, append-assoc}
 use native.Mathlib.Nat.{add-zero, zero-add, add-assoc}
 use Rattle.engine.specs.declared.state.Mode.the-variants.{Stopped}
+use Rattle.engine.specs.declared.state.Pending.the-variants.{NoAlarm}
 use Rattle.pump.specs.declared.reports.Report.{Report}
 use Rattle.pump.specs.Holder.{modelPhases}
+use Rattle.statement.specs.Facts.{runOf}
 use Rattle.statement.specs.Histories.{Call, after}
 use Rattle.statement.proofs.Always.{model, sound-after}
-use Rattle.sheet.specs.Observations.{Event, Every, trace, stepsOf, stepsGiven}
-use Rattle.sheet.specs.Sending.{lines, ticks}
-use Rattle.sheet.proofs.Joining.{trace-both, ticks-both}
-use Rattle.sheet.proofs.Opening.{opened}
-use Rattle.sheet.proofs.Stops.{Standing, stopped-stands}
+use Rattle.condition3.specs.Observations.{Event, Every, trace, stepsOf, stepsGiven}
+use Rattle.condition3.specs.Sending.{lines, ticks}
+use Rattle.condition3.proofs.Joining.{trace-both, ticks-both}
+use Rattle.condition3.proofs.Opening.{opened}
+use Rattle.condition3.proofs.Stops.{Standing, stopped-stands}
 use Rattle.figures.specs.Figures.{tooLittle, justEnough, microlitre}
 use Rattle.figures.specs.Rows.{atPowerUp}
 
@@ -34,7 +36,7 @@ no-steps (e ∷ es) h =
 -- ---- n ticks of a run, after which the pump is stopped, and k more
 all-given :
     (ts : List String) (n steps : ℕ)
-    → after atPowerUp (lines ts ++ ticks n) .core .run .mode ≡ Stopped
+    → runOf (after atPowerUp (lines ts ++ ticks n)) .mode ≡ Stopped NoAlarm
     → stepsGiven (trace atPowerUp (lines ts ++ ticks n)) ≡ steps
     → (k : ℕ)
     → stepsGiven (trace atPowerUp (lines ts ++ ticks (n + k))) ≡ steps
@@ -45,7 +47,7 @@ all-given ts n steps stops gives k =
     ∙ steps-both (trace atPowerUp (lines ts ++ ticks n)) (trace (after atPowerUp (lines ts ++ ticks n)) (ticks k))
     ∙ ap₂ (λ (a b : ℕ). a + b) gives
     (no-steps (trace (after atPowerUp (lines ts ++ ticks n)) (ticks k))
-    (stopped-stands (after atPowerUp (lines ts ++ ticks n)) (sound-after modelPhases model (lines ts ++ ticks n)) stops k))
+    (stopped-stands (after atPowerUp (lines ts ++ ticks n)) (sound-after modelPhases model (lines ts ++ ticks n)) NoAlarm stops k))
     ∙ add-zero steps
 
 -- ---- the three runs

@@ -8,14 +8,16 @@ use mathlib.Core.Path.{_≡_, refl, sym, ap, ap₂, _∙_}
 use mathlib.Core.List.{_++_}
 use native.Mathlib.Nat.{zero-add}
 use Rattle.engine.specs.declared.state.Mode.the-variants.{Stopped, Running}
+use Rattle.engine.specs.declared.state.Pending.the-variants.{NoAlarm}
 use Rattle.pump.specs.Holder.{modelPhases}
 use Rattle.pump.specs.declared.holder.Pump.{Pump}
+use Rattle.statement.specs.Facts.{runOf}
 use Rattle.statement.specs.Histories.{after, Whole}
 use Rattle.statement.proofs.Always.{model, whole-after}
-use Rattle.sheet.specs.Observations.{trace}
-use Rattle.sheet.specs.Sending.{lines, ticks}
-use Rattle.sheet.proofs.Joining.{after-both, trace-both}
-use Rattle.sheet.proofs.Opening.{opened}
+use Rattle.condition3.specs.Observations.{trace}
+use Rattle.condition3.specs.Sending.{lines, ticks}
+use Rattle.condition3.proofs.Joining.{after-both, trace-both}
+use Rattle.condition3.proofs.Opening.{opened}
 use Rattle.figures.specs.Figures.{nested}
 use Rattle.figures.specs.Rows.{atPowerUp, enters, entries}
 use Rattle.figures.proofs.Leaps.{Tally, True, waited, tally, tallying, tallied, for-ever, entries-both}
@@ -37,7 +39,7 @@ ready-whole = whole-after modelPhases model (lines nested)
 last : Tally
 last = tally 3 ready 4_370
 
-stops : last .place .run .mode ≡ Stopped
+stops : last .place .run .mode ≡ Stopped NoAlarm
 unfolding opened nested ready tallying last
 stops = refl
 
@@ -51,7 +53,7 @@ sees = refl
 
 ever : (k : ℕ) → True 3 ready (waited last k)
 unfolding last
-ever k = for-ever 3 ready ready-whole (tally 3 ready 4_370) (tallied 3 ready ready-whole 4_370) stops k
+ever k = for-ever 3 ready ready-whole (tally 3 ready 4_370) (tallied 3 ready ready-whole 4_370) NoAlarm stops k
 
 pub pause-entered : (k : ℕ) → entries 3 (trace atPowerUp (lines nested ++ ticks (1_442_930 + k))) ≡ 1_440
 unfolding ready
@@ -63,10 +65,10 @@ pause-entered k =
     ∙ zero-add 1_440
 
 -- and then the pump is stopped, as it stays
-pub pause-stopped : (k : ℕ) → after atPowerUp (lines nested ++ ticks (1_442_930 + k)) .core .run .mode ≡ Stopped
+pub pause-stopped : (k : ℕ) → runOf (after atPowerUp (lines nested ++ ticks (1_442_930 + k))) .mode ≡ Stopped NoAlarm
 unfolding ready
 pause-stopped k =
-    ap (λ (p : Pump). p .core .run .mode)
+    ap (λ (p : Pump). runOf p .mode)
     (after-both atPowerUp (lines nested) (ticks (1_442_930 + k))
     ∙ ap (λ (n : ℕ). after ready (ticks (n + k))) (sym takes)
     ∙ ever k .there)
@@ -84,10 +86,10 @@ before-runs : before .place .run .mode ≡ Running
 unfolding opened nested ready tallying before
 before-runs = refl
 
-pub pause-running : after atPowerUp (lines nested ++ ticks 1_442_929) .core .run .mode ≡ Running
+pub pause-running : runOf (after atPowerUp (lines nested ++ ticks 1_442_929)) .mode ≡ Running
 unfolding ready before
 pause-running =
-    ap (λ (p : Pump). p .core .run .mode)
+    ap (λ (p : Pump). runOf p .mode)
     (after-both atPowerUp (lines nested) (ticks 1_442_929)
     ∙ ap (λ (n : ℕ). after ready (ticks n)) (sym before-takes)
     ∙ tallied 3 ready ready-whole 4_369 .there)

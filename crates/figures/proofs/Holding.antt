@@ -4,8 +4,8 @@ use Prim.Native.Nat.{ℕ}
 use mathlib.Core.Path.{_≡_, refl, ap}
 use mathlib.Core.List.{List, [], _∷_, map}
 use Rattle.base.specs.Text.{text}
-use Rattle.sheet.specs.Observations.{Every}
-use Rattle.sheet.proofs.Opening.{opened}
+use Rattle.condition3.specs.Observations.{Every}
+use Rattle.condition3.proofs.Opening.{opened}
 use Rattle.figures.specs.Figures.{figures}
 use Rattle.figures.specs.Rows.{Row, Holds, answered}
 use Rattle.figures.proofs.Doses.{none-fits, one-fits, fifty-fit}

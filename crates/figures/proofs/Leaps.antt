@@ -10,28 +10,30 @@ use mathlib.Core.List.{List, [], _∷_, _++_}
 use native.Mathlib.Nat.{add-zero, zero-add, add-assoc, le-refl}
 use lib.Dec.{eqb}
 use Rattle.base.proofs.Choices.{and-false}
-use Rattle.program.specs.declared.phases.Phase.{Phase}
-use Rattle.engine.specs.Queries.{runs, operating}
-use Rattle.engine.specs.Runs.{toNext}
-use Rattle.engine.specs.Sound.{isEntering}
+use Rattle.words.specs.declared.phases.Phase.{Phase}
+use Rattle.engine.specs.Cores.{withRun}
+use Rattle.engine.specs.Runs.{goOn, isRunning, isOperating, isEntering}
 use Rattle.engine.specs.Ticks.{tickOf}
 use Rattle.engine.specs.declared.state.Core.{Core}
 use Rattle.engine.specs.declared.state.Mode.{Mode}
 use Rattle.engine.specs.declared.state.Mode.the-variants.{Stopped, Paused, Running}
+use Rattle.engine.specs.declared.state.Pending.{Pending}
+use Rattle.engine.specs.declared.state.Run.{Run}
 use Rattle.engine.specs.declared.state.Work.{Work}
 use Rattle.engine.specs.declared.state.Work.the-variants.{Entering, Visiting, Pausing, Waiting}
-use Rattle.pump.specs.Holder.{phaseAt, withCore, soundPump}
+use Rattle.pump.specs.Holder.{phaseAt, isSoundPump}
 use Rattle.pump.specs.declared.holder.Pump.{Pump}
 use Rattle.pump.specs.declared.reports.Report.{Report}
-use Rattle.statement.specs.Facts.{underWay}
+use Rattle.statement.specs.Facts.{coreOf, runOf, underWay}
 use Rattle.statement.specs.Histories.{Call, after, Whole}
+use Rattle.statement.specs.Outcomes.{withCore}
 use Rattle.statement.proofs.Always.{after-whole}
-use Rattle.statement.proofs.Wholes.{sound-tick}
-use Rattle.sheet.specs.Observations.{Event, Every, isAccepted, trace, tickTaken}
-use Rattle.sheet.specs.Sending.{ticks}
-use Rattle.sheet.proofs.Joining.{after-both, trace-both, ticks-both}
-use Rattle.sheet.proofs.Pauses.{InPause, Passing, behindPause, pause-ends, pause-passes}
-use Rattle.sheet.proofs.Stops.{Standing, stopped-after, stopped-stands}
+use Rattle.pump.proofs.Kept.{sound-tick}
+use Rattle.condition3.specs.Observations.{Event, Every, isAccepted, trace, tickTaken}
+use Rattle.condition3.specs.Sending.{ticks}
+use Rattle.condition3.proofs.Joining.{after-both, trace-both, ticks-both}
+use Rattle.condition3.proofs.Pauses.{InPause, Passing, behindPause, pause-ends, pause-passes}
+use Rattle.condition3.proofs.Stops.{Standing, stopped-after, stopped-stands}
 use Rattle.figures.specs.Rows.{entering, enters, oneIf, entries}
 
 -- ---- one leap of a core, with the phases at hand, and the ticks that it stands for
@@ -41,11 +43,11 @@ stepped ps s = tickOf s (phaseAt ps (s .run .place .current)) .core
 unfoldable pub leapWork : List Phase → Core → Work → Core
 leapWork ps s Entering = stepped ps s
 leapWork ps s (Visiting v) = stepped ps s
-leapWork ps s (Pausing left) = toNext s
+leapWork ps s (Pausing left) = withRun s (goOn (s .run))
 leapWork ps s Waiting = stepped ps s
 
 unfoldable pub leapMode : List Phase → Core → Mode → Core
-leapMode ps s Stopped = stepped ps s
+leapMode ps s (Stopped alarm) = stepped ps s
 leapMode ps s Paused = stepped ps s
 leapMode ps s Running = leapWork ps s (s .run .place .work)
 
@@ -59,12 +61,12 @@ spanWork (Pausing left) = left
 spanWork Waiting = 1
 
 unfoldable pub spanMode : Mode → Work → ℕ
-spanMode Stopped w = 1
+spanMode (Stopped alarm) w = 1
 spanMode Paused w = 1
 spanMode Running w = spanWork w
 
-unfoldable pub span : Core → ℕ
-span s = spanMode (s .run .mode) (s .run .place .work)
+unfoldable pub span : Run → ℕ
+span r = spanMode (r .mode) (r .place .work)
 
 -- ---- entries in two parts, and events that enter nothing
 pub entries-both : (phase : ℕ) (a b : List Event) → entries phase (a ++ b) ≡ entries phase a + entries phase b
@@ -74,24 +76,24 @@ entries-both phase (e ∷ a) b =
     ap (λ (n : ℕ). oneIf (enters phase e) + n) (entries-both phase a b)
     ∙ sym (add-assoc (oneIf (enters phase e)) (entries phase a) (entries phase b))
 
-pausing-none : (phase : ℕ) (s : Core) (left : ℕ) → s .run .place .work ≡ Pausing left → entering phase s ≡ false
+pausing-none : (phase : ℕ) (r : Run) (left : ℕ) → r .place .work ≡ Pausing left → entering phase r ≡ false
 unfolding entering
-pausing-none phase s left e =
-    ap (λ (x : Work). operating s && (isEntering x && eqb (s .run .place .current) phase)) e ∙ and-false (operating s)
+pausing-none phase r left e =
+    ap (λ (x : Work). isOperating r && (isEntering x && eqb (r .place .current) phase)) e ∙ and-false (isOperating r)
 
-stopped-none : (phase : ℕ) (s : Core) → s .run .mode ≡ Stopped → entering phase s ≡ false
+stopped-none : (phase : ℕ) (r : Run) (alarm : Pending) → r .mode ≡ Stopped alarm → entering phase r ≡ false
 unfolding entering
-stopped-none phase s e = ap (λ (x : Mode). runs x && (isEntering (s .run .place .work) && eqb (s .run .place .current) phase)) e
+stopped-none phase r alarm e = ap (λ (x : Mode). isRunning x && (isEntering (r .place .work) && eqb (r .place .current) phase)) e
 
-not-entered : (phase : ℕ) (e : Event) → entering phase (e .before .core) ≡ false → enters phase e ≡ false
+not-entered : (phase : ℕ) (e : Event) → entering phase (runOf (e .before)) ≡ false → enters phase e ≡ false
 unfolding enters
 not-entered phase e h = ap (λ (t : Bool). tickTaken e && t) h ∙ and-false (tickTaken e)
 
 passing-none : (phase : ℕ) (e : Event) → Passing e → enters phase e ≡ false
-passing-none phase e h = not-entered phase e (pausing-none phase (e .before .core) (h .left) (h .before-pausing))
+passing-none phase e h = not-entered phase e (pausing-none phase (runOf (e .before)) (h .left) (h .before-pausing))
 
 standing-none : (phase : ℕ) (e : Event) → Standing e → enters phase e ≡ false
-standing-none phase e h = not-entered phase e (stopped-none phase (e .before .core) (h .before-stopped))
+standing-none phase e h = not-entered phase e (stopped-none phase (runOf (e .before)) (h .alarm) (h .before-stopped))
 
 none-entered :
     (phase : ℕ) (P : Event → Type 0) → ((e : Event) → P e → enters phase e ≡ false) → (es : List Event) → Every P es → entries phase es ≡ 0
@@ -103,33 +105,33 @@ none-entered phase P none (e ∷ es) h =
 -- ---- what a leap says of the ticks that it stands for
 record Leaps (phase : ℕ) (p : Pump) (n : ℕ) (q : Pump) : Type 0 where
   there : after p (ticks n) ≡ q
-  counted : entries phase (trace p (ticks n)) ≡ oneIf (entering phase (p .core))
+  counted : entries phase (trace p (ticks n)) ≡ oneIf (entering phase (runOf p))
 
 module _ (phase : ℕ) (p : Pump) (w : Whole p) where
-  one-tick : Leaps phase p 1 (withCore p (stepped (p .phases) (p .core)))
+  one-tick : Leaps phase p 1 (withCore p (stepped (p .phases) (coreOf p)))
   unfolding after trace ticks entries enters
   one-tick =
       record {
         there = ap (λ (r : Report). r .pump) (sound-tick p (w .sound));
         counted =
-            ap (λ (r : Report). oneIf (isAccepted (r .refusal) && entering phase (p .core)) + 0) (sound-tick p (w .sound)) ∙ add-zero _;
+            ap (λ (r : Report). oneIf (isAccepted r && entering phase (runOf p)) + 0) (sound-tick p (w .sound)) ∙ add-zero _;
       }
 
-  pause-leap : (left : ℕ) → p .core .run .mode ≡ Running → underWay p ≡ Pausing left → Leaps phase p left (behindPause p)
+  pause-leap : (left : ℕ) → runOf p .mode ≡ Running → underWay p ≡ Pausing left → Leaps phase p left (behindPause p)
   pause-leap left m e =
       let h : InPause p left = record { whole = w; running = m; pausing = e } in
       record {
         there = pause-ends p left h;
         counted =
             none-entered phase Passing (passing-none phase) (trace p (ticks left)) (pause-passes p left left h (le-refl left))
-            ∙ sym (ap oneIf (pausing-none phase (p .core) left e));
+            ∙ sym (ap oneIf (pausing-none phase (runOf p) left e));
       }
 
   leap-work :
       (x : Work)
-      → p .core .run .mode ≡ Running
+      → runOf p .mode ≡ Running
       → underWay p ≡ x
-      → Leaps phase p (spanWork x) (withCore p (leapWork (p .phases) (p .core) x))
+      → Leaps phase p (spanWork x) (withCore p (leapWork (p .phases) (coreOf p) x))
   unfolding spanWork leapWork
   leap-work Entering m e = one-tick
   leap-work (Visiting v) m e = one-tick
@@ -137,15 +139,15 @@ module _ (phase : ℕ) (p : Pump) (w : Whole p) where
   leap-work Waiting m e = one-tick
 
   leap-mode :
-      (x : Mode) → p .core .run .mode ≡ x → Leaps phase p (spanMode x (underWay p)) (withCore p (leapMode (p .phases) (p .core) x))
+      (x : Mode) → runOf p .mode ≡ x → Leaps phase p (spanMode x (underWay p)) (withCore p (leapMode (p .phases) (coreOf p) x))
   unfolding spanMode leapMode
-  leap-mode Stopped e = one-tick
+  leap-mode (Stopped alarm) e = one-tick
   leap-mode Paused e = one-tick
   leap-mode Running e = leap-work (underWay p) e refl
 
-  leap-true : Leaps phase p (span (p .core)) (withCore p (leap (p .phases) (p .core)))
+  leap-true : Leaps phase p (span (runOf p)) (withCore p (leap (p .phases) (coreOf p)))
   unfolding span leap
-  leap-true = leap-mode (p .core .run .mode) refl
+  leap-true = leap-mode (runOf p .mode) refl
 
 -- ---- a tally of leaps: where they lead, the ticks used, and the entries seen
 pub record Tally : Type 0 where
@@ -155,7 +157,7 @@ pub record Tally : Type 0 where
 
 unfoldable pub next : ℕ → List Phase → Tally → Tally
 next phase ps t =
-    record { place = leap ps (t .place); used = t .used + span (t .place); seen = t .seen + oneIf (entering phase (t .place)) }
+    record { place = leap ps (t .place); used = t .used + span (t .place .run); seen = t .seen + oneIf (entering phase (t .place .run)) }
 
 unfoldable pub onwards : ℕ → List Phase → ℕ → Tally → Tally
 onwards phase ps zero t = t
@@ -163,7 +165,7 @@ onwards phase ps (suc n) t = onwards phase ps n (next phase ps t)
 
 -- so many leaps of a pump
 unfoldable pub tally : ℕ → Pump → ℕ → Tally
-tally phase p n = onwards phase (p .phases) n (record { place = p .core; used = 0; seen = 0 })
+tally phase p n = onwards phase (p .phases) n (record { place = coreOf p; used = 0; seen = 0 })
 
 -- named on an `unfolding` line, it opens what a tally computes with
 unfoldable pub tallying : ℕ
@@ -201,13 +203,13 @@ module _ (phase : ℕ) (p : Pump) (w : Whole p) where
       let l = leap-true phase (withCore p (t .place)) (whole-there t h) in
       record {
         there =
-            after-ticks p (t .used) (span (t .place))
-            ∙ ap (λ (q : Pump). after q (ticks (span (t .place)))) (h .there)
+            after-ticks p (t .used) (span (t .place .run))
+            ∙ ap (λ (q : Pump). after q (ticks (span (t .place .run)))) (h .there)
             ∙ l .there;
         counted =
-            entries-ticks phase p (t .used) (span (t .place))
+            entries-ticks phase p (t .used) (span (t .place .run))
             ∙ ap₂ (λ (a b : ℕ). a + b) (h .counted)
-            (ap (λ (q : Pump). entries phase (trace q (ticks (span (t .place))))) (h .there) ∙ l .counted);
+            (ap (λ (q : Pump). entries phase (trace q (ticks (span (t .place .run))))) (h .there) ∙ l .counted);
       }
 
   onwards-true : (n : ℕ) (t : Tally) → True phase p t → True phase p (onwards phase (p .phases) n t)
@@ -217,19 +219,25 @@ module _ (phase : ℕ) (p : Pump) (w : Whole p) where
 
   pub tallied : (n : ℕ) → True phase p (tally phase p n)
   unfolding tally after trace ticks entries
-  tallied n = onwards-true n (record { place = p .core; used = 0; seen = 0 }) (record { there = refl; counted = refl })
+  tallied n = onwards-true n (record { place = coreOf p; used = 0; seen = 0 }) (record { there = refl; counted = refl })
 
   -- a tally that ends in a stopped pump has seen all that there ever is
-  pub for-ever : (t : Tally) → True phase p t → t .place .run .mode ≡ Stopped → (k : ℕ) → True phase p (waited t k)
-  for-ever t h e k =
+  pub for-ever :
+      (t : Tally)
+      → True phase p t
+      → (alarm : Pending)
+      → t .place .run .mode ≡ Stopped alarm
+      → (k : ℕ)
+      → True phase p (waited t k)
+  for-ever t h alarm e k =
       let q : Pump = withCore p (t .place) in
-      let sound : soundPump q ≡ true = whole-there t h .sound in
+      let sound : isSoundPump q ≡ true = whole-there t h .sound in
       record {
-        there = after-ticks p (t .used) k ∙ ap (λ (x : Pump). after x (ticks k)) (h .there) ∙ stopped-after q sound e k;
+        there = after-ticks p (t .used) k ∙ ap (λ (x : Pump). after x (ticks k)) (h .there) ∙ stopped-after q sound alarm e k;
         counted =
             entries-ticks phase p (t .used) k
             ∙ ap₂ (λ (a b : ℕ). a + b) (h .counted)
             (ap (λ (x : Pump). entries phase (trace x (ticks k))) (h .there)
-            ∙ none-entered phase Standing (standing-none phase) (trace q (ticks k)) (stopped-stands q sound e k))
+            ∙ none-entered phase Standing (standing-none phase) (trace q (ticks k)) (stopped-stands q sound alarm e k))
             ∙ add-zero (t .seen);
       }

@@ -10,13 +10,12 @@ use lib.ListN.{take}
 use Rattle.base.specs.If.{if_then_else_}
 use Rattle.base.specs.Text.{letter, text}
 use Rattle.decimal.specs.Print.{printed}
-use Rattle.engine.specs.Queries.{operating}
-use Rattle.engine.specs.Sound.{isEntering}
-use Rattle.engine.specs.declared.state.Core.{Core}
+use Rattle.engine.specs.Runs.{isOperating, isEntering}
+use Rattle.engine.specs.declared.state.Run.{Run}
 use Rattle.pump.specs.Holder.{modelPhases, freshPump}
 use Rattle.pump.specs.declared.holder.Pump.{Pump}
-use Rattle.sheet.specs.Observations.{Event, trace, tickTaken, stepsGiven}
-use Rattle.sheet.specs.Sending.{lines, ticks}
+use Rattle.condition3.specs.Observations.{Event, trace, tickTaken, stepsGiven}
+use Rattle.condition3.specs.Sending.{lines, ticks}
 
 -- the pump just switched on, from which every row goes   (01, Commands: Power-up)
 abbrev pub atPowerUp : Pump
@@ -67,12 +66,12 @@ doses c ts n steps =
 -- ---- l: how often a phase is entered, when lines are sent and n ticks go by, and any k more
 -- a tick would enter that phase: the pump runs, the phase is the current one, and it is not entered   (01, Ticks and phases: "A tick does
 -- one of: enter the current phase, or work the entered one")
-unfoldable pub entering : ℕ → Core → Bool
-entering phase s = operating s && (isEntering (s .run .place .work) && eqb (s .run .place .current) phase)
+unfoldable pub entering : ℕ → Run → Bool
+entering phase r = isOperating r && (isEntering (r .place .work) && eqb (r .place .current) phase)
 
 -- the event is a tick that was not refused, and entered it
 unfoldable pub enters : ℕ → Event → Bool
-enters phase e = tickTaken e && entering phase (e .before .core)
+enters phase e = tickTaken e && entering phase (e .before .device .core .run)
 
 abbrev pub oneIf : Bool → ℕ
 oneIf t = if t then 1 else 0

@@ -1,34 +1,35 @@
 -- What an argument asks for, by what was read from it.
 -- Assumes nothing.
-use Prim.Native.Nat.{ℕ, _-_, _≤_, _<_}
+use Prim.Native.Nat.{ℕ, suc, _-_, _≤_, _<_}
 use mathlib.Core.Path.{_≡_, refl, sym, ap, _∙_}
 use mathlib.Core.Bool.{Bool, true, false}
-use mathlib.Core.List.{List}
+use mathlib.Core.List.{List, [], _∷_}
 use native.Mathlib.Omega.{arith}
-use lib.Dec.{eqb, ltb}
-use lib.ListN.{length, getD, take}
-use borrow.Author.Tests.{eq-eqb, ne-eqb, lt-ltb, le-ltb, ltb-true, ltb-false}
-use Rattle.base.specs.If.{if_then_else_}
+use lib.Dec.{ltb}
+use lib.ListN.{length, getD, take, drop, length-drop, drop-of-length-le}
+use lib.Seq.{drop-cons}
+use borrow.Author.Tests.{eq-eqb, ne-eqb, ltb-true, ltb-false}
+use Rattle.base.proofs.Choices.{and-false}
 use Rattle.decimal.specs.declared.input.Reading.{Reading}
 use Rattle.decimal.specs.declared.input.Reading.the-variants.{Number, NoNumber}
 use Rattle.decimal.specs.declared.short.Short.{Short}
 use Rattle.decimal.specs.declared.short.Short.the-variants.{Digits, NoDigits}
 use Rattle.drive.specs.declared.rates.RateUnit.{RateUnit}
 use Rattle.drive.specs.declared.rates.RateUnit.the-variants.{Um, Mm, Uh, Mh}
-use Rattle.program.specs.declared.phases.Direction.{Direction}
-use Rattle.program.specs.declared.phases.Direction.the-variants.{Infuse, Withdraw}
-use Rattle.line.specs.Spelling.{isText}
+use Rattle.words.specs.declared.phases.Direction.{Direction}
+use Rattle.words.specs.declared.phases.Direction.the-variants.{Infuse, Withdraw}
+use Rattle.line.specs.Spelling.{leads, isText}
 use Rattle.base.specs.Text.{letter, text}
 use Rattle.decimal.specs.Read.{readOf}
 use Rattle.line.specs.Arguments as asked
-use Rattle.line.specs.Arguments.{orQuery, ifNumber, ifDigits, unitsOf, unitsAtEnd}
-use Rattle.line.specs.Arguments.{amountOf, rateAsked, turnOf, directionAsked, clearAsked}
-use Rattle.line.specs.declared.arguments.Units.{Units}
-use Rattle.line.specs.declared.arguments.Units.the-variants.{Own, Given}
-use Rattle.line.specs.declared.arguments.Turn.{Turn}
-use Rattle.line.specs.declared.arguments.Turn.the-variants as turn
-use Rattle.line.specs.declared.commands.Command.{Command}
-use Rattle.line.specs.declared.commands.Command.the-variants as c
+use Rattle.line.specs.Arguments.{orQuery, ifNumber, ifDigits, unlessMore, unitsOf, unitsAtEnd}
+use Rattle.line.specs.Arguments.{amountOf, rateAsked, headedBy, headingOf, directionAsked, clearAsked}
+use Rattle.words.specs.declared.commands.Units.{Units}
+use Rattle.words.specs.declared.commands.Units.the-variants.{Own, Given}
+use Rattle.line.specs.declared.arguments.Heading.{Heading}
+use Rattle.line.specs.declared.arguments.Heading.the-variants as heading
+use Rattle.words.specs.declared.commands.Command.{Command}
+use Rattle.words.specs.declared.commands.Command.the-variants as c
 
 -- nothing behind the name: the query
 pub asks : (query : Command) (s : List ℕ) (setting : Command) → length s ≡ 0 → query ≡ orQuery query s setting
@@ -53,50 +54,57 @@ module _ (query : Command) (setting : ℕ → Command) (s : List ℕ) (n : lengt
 
 -- ---- units by their letters
 module _ (a b : ℕ) where
-  pub units-um : a ≡ letter "U" → b ≡ letter "M" → Given Um ≡ unitsOf a b
-  unfolding unitsOf
+  pub units-um : a ≡ letter "U" → b ≡ letter "M" → Given Um ≡ unitsOf (a ∷ b ∷ [])
+  unfolding unitsOf isText leads
   units-um p q = rw (p, q)
 
-  pub units-uh : a ≡ letter "U" → b ≡ letter "H" → Given Uh ≡ unitsOf a b
-  unfolding unitsOf
+  pub units-uh : a ≡ letter "U" → b ≡ letter "H" → Given Uh ≡ unitsOf (a ∷ b ∷ [])
+  unfolding unitsOf isText leads
   units-uh p q = rw (p, q)
 
-  pub units-mm : a ≡ letter "M" → b ≡ letter "M" → Given Mm ≡ unitsOf a b
-  unfolding unitsOf
+  pub units-mm : a ≡ letter "M" → b ≡ letter "M" → Given Mm ≡ unitsOf (a ∷ b ∷ [])
+  unfolding unitsOf isText leads
   units-mm p q = rw (p, q)
 
-  pub units-mh : a ≡ letter "M" → b ≡ letter "H" → Given Mh ≡ unitsOf a b
-  unfolding unitsOf
+  pub units-mh : a ≡ letter "M" → b ≡ letter "H" → Given Mh ≡ unitsOf (a ∷ b ∷ [])
+  unfolding unitsOf isText leads
   units-mh p q = rw (p, q)
 
-  pub no-time : (b ≡ letter "M" → ⊥) → (b ≡ letter "H" → ⊥) → Own ≡ unitsOf a b
-  unfolding unitsOf
-  no-time p q = go (eqb a (letter "U")) (eqb a (letter "M"))
-    where
-      go :
-          (t u : Bool)
-          → Own
-          ≡ (if t
-          then if eqb b (letter "M") then Given Um else if eqb b (letter "H") then Given Uh else Own
-          else if u then if eqb b (letter "M") then Given Mm else if eqb b (letter "H") then Given Mh else Own else Own)
-      go true u = sym (simp (ne-eqb b (letter "M") p, ne-eqb b (letter "H") q))
-      go false true = sym (simp (ne-eqb b (letter "M") p, ne-eqb b (letter "H") q))
-      go false false = refl
+  pub no-time : (b ≡ letter "M" → ⊥) → (b ≡ letter "H" → ⊥) → Own ≡ unitsOf (a ∷ b ∷ [])
+  unfolding unitsOf isText leads
+  no-time p q = sym (simp (ne-eqb b (letter "M") p, ne-eqb b (letter "H") q, and-false))
 
-  pub no-volume : (a ≡ letter "U" → ⊥) → (a ≡ letter "M" → ⊥) → Own ≡ unitsOf a b
-  unfolding unitsOf
+  pub no-volume : (a ≡ letter "U" → ⊥) → (a ≡ letter "M" → ⊥) → Own ≡ unitsOf (a ∷ b ∷ [])
+  unfolding unitsOf isText leads
   no-volume p q = sym (simp (ne-eqb a (letter "U") p, ne-eqb a (letter "M") q))
 
 pub ruleset units = (units-um, units-uh, units-mm, units-mh, no-time, no-volume)
 
+one-letter : (s : List ℕ) → length s < 2 → unitsOf s ≡ Own
+unfolding unitsOf isText
+one-letter [] h = refl
+one-letter (a ∷ []) h = refl
+one-letter (a ∷ b ∷ s) h = absurd (omega arith)
+
 module _ (s : List ℕ) where
   pub too-few : length s < 2 → Own ≡ unitsAtEnd s
   unfolding unitsAtEnd
-  too-few h = sym (simp (lt-ltb (length s) 2 h))
+  too-few h = sym (one-letter (drop (length s - 2) s) (simp length-drop (omega arith)))
 
-  pub last-two : (r : Units) → 2 ≤ length s → r ≡ unitsOf (getD s (length s - 2) 0) (getD s (length s - 1) 0) → r ≡ unitsAtEnd s
+  two-letters : 2 ≤ length s → drop (length s - 2) s ≡ getD s (length s - 2) 0 ∷ getD s (length s - 1) 0 ∷ []
+  two-letters h =
+      let k : suc (length s - 2) ≡ length s - 1 = omega arith in
+      let l : suc (length s - 1) ≡ length s = omega arith in
+      drop-cons s (length s - 2) 0 (omega arith)
+      ∙ ap (λ (n : ℕ). getD s (length s - 2) 0 ∷ drop n s) k
+      ∙ ap (λ (t : List ℕ). getD s (length s - 2) 0 ∷ t) (drop-cons s (length s - 1) 0 (omega arith))
+      ∙ ap (λ (n : ℕ). getD s (length s - 2) 0 ∷ getD s (length s - 1) 0 ∷ drop n s) l
+      ∙ ap (λ (t : List ℕ). getD s (length s - 2) 0 ∷ getD s (length s - 1) 0 ∷ t) (drop-of-length-le s {i = length s} (omega arith))
+
+  pub last-two :
+      (r : Units) → 2 ≤ length s → r ≡ unitsOf (getD s (length s - 2) 0 ∷ getD s (length s - 1) 0 ∷ []) → r ≡ unitsAtEnd s
   unfolding unitsAtEnd
-  last-two r h e = e ∙ sym (simp (le-ltb (length s) 2 h))
+  last-two r h e = e ∙ ap unitsOf (sym (two-letters h))
 
   -- units take two letters
   pub units-within : (r : Units) (u : RateUnit) → r ≡ unitsAtEnd s → r ≡ Given u → 2 ≤ length s
@@ -129,55 +137,75 @@ module _ (s amount : List ℕ) (units : Units) (r : Reading)
   unfolding rateAsked
   no-rate k = no-number c.AskRate (λ x. c.SetRate x (unitsAtEnd s)) s n (readOf (amountOf s)) r (e ∙ ap readOf q) k
 
--- ---- INF, WDR and REV, one after the other
-module _ (s : List ℕ) (inf : Bool) (p : inf ≡ isText (text "INF") s) where
-  pub turn-infuse : inf ≡ true → turn.To Infuse ≡ turnOf s
-  unfolding turnOf
-  turn-infuse e = sym (simp (sym p ∙ e))
+-- ---- INF, WDR and REV by their first letter
+pub only-infuse : (t : List ℕ) → headingOf (letter "I" ∷ t) ≡ headedBy (heading.To Infuse) (text "INF") (letter "I" ∷ t)
+unfolding headingOf isText leads
+only-infuse t = simp and-false
 
-  module _ (e : inf ≡ false) (wdr : Bool) (q : wdr ≡ isText (text "WDR") s) where
-    pub turn-withdraw : wdr ≡ true → turn.To Withdraw ≡ turnOf s
-    unfolding turnOf
-    turn-withdraw k = sym (simp (sym p ∙ e, sym q ∙ k))
+pub only-withdraw : (t : List ℕ) → headingOf (letter "W" ∷ t) ≡ headedBy (heading.To Withdraw) (text "WDR") (letter "W" ∷ t)
+unfolding headingOf isText leads
+only-withdraw t = simp and-false
 
-    module _ (k : wdr ≡ false) (rev : Bool) (r : rev ≡ isText (text "REV") s) where
-      pub turn-reverse : rev ≡ true → turn.Reverse ≡ turnOf s
-      unfolding turnOf
-      turn-reverse h = sym (simp (sym p ∙ e, sym q ∙ k, sym r ∙ h))
+pub only-reverse : (t : List ℕ) → headingOf (letter "R" ∷ t) ≡ headedBy heading.Reverse (text "REV") (letter "R" ∷ t)
+unfolding headingOf isText leads
+only-reverse t = simp and-false
 
-      pub turn-none : rev ≡ false → turn.NoTurn ≡ turnOf s
-      unfolding turnOf
-      turn-none h = sym (simp (sym p ∙ e, sym q ∙ k, sym r ∙ h))
+other-first :
+    (s : List ℕ)
+    → (getD s 0 0 ≡ letter "I" → ⊥)
+    → (getD s 0 0 ≡ letter "W" → ⊥)
+    → (getD s 0 0 ≡ letter "R" → ⊥)
+    → headingOf s ≡ heading.NoHeading
+unfolding headingOf isText leads
+other-first [] i w r = refl
+other-first (a ∷ s) i w r =
+    simp (ne-eqb a (letter "I") i, ne-eqb a (letter "W") w, ne-eqb a (letter "R") r, and-false)
 
-pub ruleset turns = (turn-infuse, turn-withdraw, turn-reverse, turn-none)
+pub no-heading :
+    (s : List ℕ) (a : ℕ)
+    → a ≡ getD s 0 0
+    → (a ≡ letter "I" → ⊥)
+    → (a ≡ letter "W" → ⊥)
+    → (a ≡ letter "R" → ⊥)
+    → heading.NoHeading ≡ headingOf s
+no-heading s a d i w r = sym (other-first s (λ z. i (d ∙ z)) (λ z. w (d ∙ z)) (λ z. r (d ∙ z)))
 
 -- ---- DIR and CLD
-module _ (s : List ℕ) (u : Turn) (p : u ≡ turnOf s) where
+module _ (s : List ℕ) (u : Heading) (p : u ≡ headingOf s) where
   module _ (n : length s ≡ 0 → ⊥) where
-    pub sets-direction : (d : Direction) → u ≡ turn.To d → c.SetDirection d ≡ directionAsked s
+    pub sets-direction : (d : Direction) → u ≡ heading.To d → c.SetDirection d ≡ directionAsked s
     unfolding directionAsked
-    sets-direction d e = ap asked.directionBy (sym e ∙ p) ∙ sym (sets c.AskDirection s (asked.directionBy (turnOf s)) n)
+    sets-direction d e = ap asked.directionBy (sym e ∙ p) ∙ sym (sets c.AskDirection s (asked.directionBy (headingOf s)) n)
 
-    pub reverses : u ≡ turn.Reverse → c.Reverse ≡ directionAsked s
+    pub reverses : u ≡ heading.Reverse → c.Reverse ≡ directionAsked s
     unfolding directionAsked
-    reverses e = ap asked.directionBy (sym e ∙ p) ∙ sym (sets c.AskDirection s (asked.directionBy (turnOf s)) n)
+    reverses e = ap asked.directionBy (sym e ∙ p) ∙ sym (sets c.AskDirection s (asked.directionBy (headingOf s)) n)
 
-    pub no-direction : u ≡ turn.NoTurn → c.Malformed ≡ directionAsked s
+    pub no-direction : u ≡ heading.NoHeading → c.Malformed ≡ directionAsked s
     unfolding directionAsked
-    no-direction e = ap asked.directionBy (sym e ∙ p) ∙ sym (sets c.AskDirection s (asked.directionBy (turnOf s)) n)
+    no-direction e = ap asked.directionBy (sym e ∙ p) ∙ sym (sets c.AskDirection s (asked.directionBy (headingOf s)) n)
 
-  pub clears : (d : Direction) → u ≡ turn.To d → c.Clear d ≡ clearAsked s
+  pub clears : (d : Direction) → u ≡ heading.To d → c.Clear d ≡ clearAsked s
   unfolding clearAsked
   clears d e = ap asked.clearBy (sym e ∙ p)
 
-  pub clears-no-reverse : u ≡ turn.Reverse → c.Malformed ≡ clearAsked s
+  pub clears-no-reverse : u ≡ heading.Reverse → c.Malformed ≡ clearAsked s
   unfolding clearAsked
   clears-no-reverse e = ap asked.clearBy (sym e ∙ p)
 
-  pub clears-nothing : u ≡ turn.NoTurn → c.Malformed ≡ clearAsked s
+  pub clears-nothing : u ≡ heading.NoHeading → c.Malformed ≡ clearAsked s
   unfolding clearAsked
   clears-nothing e = ap asked.clearBy (sym e ∙ p)
 
 pub ruleset directions = (sets-direction, reverses, no-direction)
 
 pub ruleset clearings = (clears, clears-no-reverse, clears-nothing)
+
+-- ---- a command that takes no argument, a function that takes no datum
+pub takes-none : (s : List ℕ) (command : Command) → length s ≡ 0 → command ≡ unlessMore s command
+unfolding unlessMore
+takes-none s command e = sym (simp (eq-eqb (length s) 0 e))
+
+pub one-too-many : (s : List ℕ) (command : Command) → (length s ≡ 0 → ⊥) → c.Malformed ≡ unlessMore s command
+unfolding unlessMore
+one-too-many s command o = sym (simp (ne-eqb (length s) 0 o))

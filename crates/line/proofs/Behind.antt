@@ -2,87 +2,108 @@
 -- Assumes nothing.
 use Prim.Native.Nat.{ℕ, _-_}
 use mathlib.Core.Path.{_≡_, refl, sym, ap, _∙_}
+use mathlib.Core.Bool.{Bool, true, false, _||_}
 use mathlib.Core.List.{List}
+use lib.Dec.{eqb}
 use lib.ListN.{length, take, drop}
 use borrow.Author.Tests.{eq-eqb, ne-eqb}
+use Rattle.base.specs.If.{if_then_else_}
 use Rattle.decimal.specs.Short.{oneOf, twoOf, tenthsOf}
 use Rattle.decimal.specs.declared.short.Short.{Short}
 use Rattle.decimal.specs.declared.short.Short.the-variants.{Digits, NoDigits}
-use Rattle.program.specs.Names.{spelled}
-use Rattle.program.specs.declared.functions.Function.{Function}
-use Rattle.program.specs.declared.functions.Function.the-variants as f
+use Rattle.words.specs.Functions.{number}
+use Rattle.words.specs.Spelling.{functionName}
+use Rattle.words.specs.declared.functions.Function.{Function}
+use Rattle.words.specs.declared.functions.Function.the-variants as f
 use Rattle.line.specs.Names.{nameOf, argumentOf}
-use Rattle.line.specs.Functions.{calledOf, ifShort, datumOf, withDatum, functionBy, functionAsked}
-use Rattle.line.specs.Commands.{unlessMore, askedBy, commandOf}
+use Rattle.line.specs.Functions.{calledOf, holding, ifHeld, pauseBy, pauseAsked, withDatum, functionBy, functionAsked}
+use Rattle.line.specs.Commands.{askedBy, commandOf}
+use Rattle.line.specs.Arguments.{unlessMore}
 use Rattle.line.proofs.Leading.{part-behind}
 use Rattle.line.specs.declared.names.Name.{Name}
 use Rattle.line.specs.declared.names.Name.the-variants as n
 use Rattle.line.specs.declared.functions.Called.{Called}
 use Rattle.line.specs.declared.functions.Called.the-variants.{By, NoFunction}
-use Rattle.line.specs.declared.functions.Datum.{Datum}
-use Rattle.line.specs.declared.functions.Datum.the-variants.{Absent, Digit, Pair, Decimal, NoDatum}
-use Rattle.line.specs.declared.commands.Command.{Command}
-use Rattle.line.specs.declared.commands.Command.the-variants as c
+use Rattle.words.specs.declared.commands.Command.{Command}
+use Rattle.words.specs.declared.commands.Command.the-variants as c
 
--- ---- a datum by its length
-module _ (s : List ℕ) where
-  pub absent : length s ≡ 0 → Absent ≡ datumOf s
-  unfolding datumOf
-  absent e = sym (simp (eq-eqb (length s) 0 e))
+-- ---- the datum that a function takes, by its number
+pub width-is : (g : Function) → length (functionName g) ≡ (if eqb (number g) 10 then 2 else 3)
+width-is f.Rat = refl
+width-is f.Inc = refl
+width-is f.Dec = refl
+width-is f.Stp = refl
+width-is (f.Jmp k) = refl
+width-is (f.Lop k) = refl
+width-is f.Lps = refl
+width-is f.Lpe = refl
+width-is (f.Pas k) = refl
+width-is (f.Tenths k) = refl
+width-is (f.If k) = refl
+width-is (f.Evn k) = refl
+width-is f.Evr = refl
+width-is f.Bep = refl
+width-is (f.Out k) = refl
 
-  by-one : length s ≡ 1 → datumOf s ≡ ifShort Digit (oneOf s)
-  unfolding datumOf
-  by-one e = rw e
+abbrev takesDigits : ℕ → Bool
+takesDigits n = eqb n 4 || eqb n 5 || eqb n 10 || eqb n 11
 
-  by-two : length s ≡ 2 → datumOf s ≡ ifShort Pair (twoOf s)
-  unfolding datumOf
-  by-two e = rw e
+datum-is :
+    (g : Function) (s : List ℕ)
+    → withDatum g s
+    ≡ (if takesDigits (number g)
+    then ifHeld g (twoOf s)
+    else if eqb (number g) 8 || eqb (number g) 9
+    then pauseAsked s
+    else if eqb (number g) 14
+    then ifHeld g (oneOf s)
+    else unlessMore s (c.SetFunction g))
+datum-is f.Rat s = refl
+datum-is f.Inc s = refl
+datum-is f.Dec s = refl
+datum-is f.Stp s = refl
+datum-is (f.Jmp k) s = refl
+datum-is (f.Lop k) s = refl
+datum-is f.Lps s = refl
+datum-is f.Lpe s = refl
+datum-is (f.Pas k) s = refl
+datum-is (f.Tenths k) s = refl
+datum-is (f.If k) s = refl
+datum-is (f.Evn k) s = refl
+datum-is f.Evr s = refl
+datum-is f.Bep s = refl
+datum-is (f.Out k) s = refl
 
-  by-more : (length s ≡ 0 → ⊥) → (length s ≡ 1 → ⊥) → (length s ≡ 2 → ⊥) → datumOf s ≡ ifShort Decimal (tenthsOf s)
-  unfolding datumOf
-  by-more o p q = simp (ne-eqb (length s) 0 o, ne-eqb (length s) 1 p, ne-eqb (length s) 2 q)
+module _ (g : Function) (s : List ℕ) (n : ℕ) (a : n ≡ number g) (r : Command) where
+  pub by-digits : (u : Short) → takesDigits n ≡ true → u ≡ twoOf s → r ≡ ifHeld g u → r ≡ withDatum g s
+  by-digits u e p q = q ∙ ap (ifHeld g) p ∙ sym (datum-is g s ∙ simp (rw (a) at e))
 
-  module _ (r : Short) where
-    module _ (e : length s ≡ 1) (p : r ≡ oneOf s) where
-      pub one-digit : (n : ℕ) → r ≡ Digits n → Digit n ≡ datumOf s
-      one-digit n k = ap (ifShort Digit) (sym k ∙ p) ∙ sym (by-one e)
+  module _ (e : takesDigits n ≡ false) where
+    pub by-time : (eqb n 8 || eqb n 9) ≡ true → r ≡ pauseAsked s → r ≡ withDatum g s
+    by-time t q = q ∙ sym (datum-is g s ∙ simp (rw (a) at e, rw (a) at t))
 
-      pub no-digit : r ≡ NoDigits → NoDatum ≡ datumOf s
-      no-digit k = ap (ifShort Digit) (sym k ∙ p) ∙ sym (by-one e)
+    module _ (o : (eqb n 8 || eqb n 9) ≡ false) where
+      pub by-level : (u : Short) → n ≡ 14 → u ≡ oneOf s → r ≡ ifHeld g u → r ≡ withDatum g s
+      by-level u t p q = q ∙ ap (ifHeld g) p ∙ sym (datum-is g s ∙ simp (rw (a) at e, rw (a) at o, eq-eqb _ _ (rw (a) at t)))
 
-    module _ (e : length s ≡ 2) (p : r ≡ twoOf s) where
-      pub two-digits : (n : ℕ) → r ≡ Digits n → Pair n ≡ datumOf s
-      two-digits n k = ap (ifShort Pair) (sym k ∙ p) ∙ sym (by-two e)
+      pub by-nothing : (n ≡ 14 → ⊥) → r ≡ unlessMore s (c.SetFunction g) → r ≡ withDatum g s
+      by-nothing t q = q ∙ sym (datum-is g s ∙ simp (rw (a) at e, rw (a) at o, ne-eqb _ _ (rw (a) at t)))
 
-      pub no-two : r ≡ NoDigits → NoDatum ≡ datumOf s
-      no-two k = ap (ifShort Pair) (sym k ∙ p) ∙ sym (by-two e)
+pub ruleset data-taken = (by-digits, by-time, by-level, by-nothing)
 
-    module _ (o : length s ≡ 0 → ⊥) (i : length s ≡ 1 → ⊥) (t : length s ≡ 2 → ⊥) (p : r ≡ tenthsOf s) where
-      pub some-tenths : (n : ℕ) → r ≡ Digits n → Decimal n ≡ datumOf s
-      some-tenths n k = ap (ifShort Decimal) (sym k ∙ p) ∙ sym (by-more o i t)
+pub held : (g h : Function) (u : Short) (n : ℕ) → u ≡ Digits n → h ≡ holding g n → c.SetFunction h ≡ ifHeld g u
+held g h u n e p = ap c.SetFunction p ∙ ap (ifHeld g) (sym e)
 
-      pub no-tenths : r ≡ NoDigits → NoDatum ≡ datumOf s
-      no-tenths k = ap (ifShort Decimal) (sym k ∙ p) ∙ sym (by-more o i t)
+module _ (s : List ℕ) (u : Short) (p : u ≡ twoOf s) where
+  pub whole-seconds : (n : ℕ) → u ≡ Digits n → c.SetFunction (f.Pas n) ≡ pauseAsked s
+  unfolding pauseAsked
+  whole-seconds n e = ap (λ (v : Short). pauseBy v (tenthsOf s)) (sym e ∙ p)
 
-pub ruleset datums = (absent, one-digit, no-digit, two-digits, no-two, some-tenths, no-tenths)
+  pub or-tenths : (t : Short) (r : Command) → u ≡ NoDigits → t ≡ tenthsOf s → r ≡ ifHeld (f.Tenths 0) t → r ≡ pauseAsked s
+  unfolding pauseAsked
+  or-tenths t r e k q = q ∙ ap (ifHeld (f.Tenths 0)) k ∙ ap (λ (v : Short). pauseBy v (tenthsOf s)) (sym e ∙ p)
 
--- no function takes what is no datum
-pub no-datum : (g : Function) → c.Malformed ≡ withDatum g NoDatum
-no-datum f.Rat = refl
-no-datum f.Inc = refl
-no-datum f.Dec = refl
-no-datum f.Stp = refl
-no-datum (f.Jmp n) = refl
-no-datum (f.Lop n) = refl
-no-datum f.Lps = refl
-no-datum f.Lpe = refl
-no-datum (f.Pas n) = refl
-no-datum (f.Tenths n) = refl
-no-datum (f.If n) = refl
-no-datum (f.Evn n) = refl
-no-datum f.Evr = refl
-no-datum f.Bep = refl
-no-datum (f.Out n) = refl
+pub ruleset pauses = (whole-seconds, or-tenths)
 
 -- ---- FUN
 module _ (s : List ℕ) where
@@ -91,7 +112,7 @@ module _ (s : List ℕ) where
   asks-function e = sym (simp (eq-eqb (length s) 0 e))
 
   module _ (n : length s ≡ 0 → ⊥) (u : Called) (p : u ≡ calledOf s) where
-    by-called : functionAsked s ≡ functionBy u s
+    pub by-called : functionAsked s ≡ functionBy u s
     unfolding functionAsked
     by-called = simp (ne-eqb (length s) 0 n) (ap (λ (v : Called). functionBy v s) (sym p))
 
@@ -99,16 +120,15 @@ module _ (s : List ℕ) where
     no-function e = sym (by-called ∙ ap (λ (v : Called). functionBy v s) e)
 
     pub some-function :
-        (g : Function) (w : ℕ) (d : Datum) (r : Command)
+        (g : Function) (w : ℕ) (r : Command)
         → u ≡ By g
-        → w ≡ length (spelled g)
-        → d ≡ datumOf (take (length s - w) (drop w s))
-        → r ≡ withDatum g d
+        → w ≡ length (functionName g)
+        → r ≡ withDatum g (take (length s - w) (drop w s))
         → r ≡ functionAsked s
-    some-function g w d r e h k q =
-        let behind : take (length s - w) (drop w s) ≡ drop (length (spelled g)) s =
+    some-function g w r e h q =
+        let behind : take (length s - w) (drop w s) ≡ drop (length (functionName g)) s =
         part-behind s w ∙ ap (λ (v : ℕ). drop v s) h in
-        q ∙ ap (withDatum g) (k ∙ ap datumOf behind) ∙ sym (by-called ∙ ap (λ (v : Called). functionBy v s) e)
+        q ∙ ap (withDatum g) behind ∙ sym (by-called ∙ ap (λ (v : Called). functionBy v s) e)
 
 -- ---- a command by its name
 module _ (s : List ℕ) where
@@ -130,12 +150,3 @@ by-name name s rest m r o p q e k =
 
 pub no-name : (s : List ℕ) (m : Name) → (length s ≡ 0 → ⊥) → m ≡ nameOf s → m ≡ n.Unknown → c.Malformed ≡ commandOf s
 no-name s m o q e = by-name n.Unknown s (argumentOf s) m c.Malformed o refl q e refl
-
--- ---- a command that takes no argument
-pub takes-none : (s : List ℕ) (command : Command) → length s ≡ 0 → command ≡ unlessMore s command
-unfolding unlessMore
-takes-none s command e = sym (simp (eq-eqb (length s) 0 e))
-
-pub one-too-many : (s : List ℕ) (command : Command) → (length s ≡ 0 → ⊥) → c.Malformed ≡ unlessMore s command
-unfolding unlessMore
-one-too-many s command o = sym (simp (ne-eqb (length s) 0 o))

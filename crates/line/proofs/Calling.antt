@@ -10,9 +10,9 @@ use borrow.Author.Tests.{ne-eqb}
 use Rattle.base.specs.If.{if_then_else_}
 use Rattle.base.specs.Text.{text, letter}
 use Rattle.base.proofs.Choices.{and-false}
-use Rattle.program.specs.Names.{spelled}
-use Rattle.program.specs.declared.functions.Function.{Function}
-use Rattle.program.specs.declared.functions.Function.the-variants as f
+use Rattle.words.specs.Spelling.{functionName}
+use Rattle.words.specs.declared.functions.Function.{Function}
+use Rattle.words.specs.declared.functions.Function.the-variants as f
 use Rattle.line.specs.Spelling.{leads}
 use Rattle.line.specs.Functions.{functions, calledOf, calledBy, calledAmong}
 use Rattle.line.specs.declared.functions.Called.{Called}
@@ -21,7 +21,7 @@ use Rattle.line.proofs.Leading.{leads-is, leads-within}
 
 -- ---- the letters that the code looks at leave one function to be tried
 abbrev Only : Function → List ℕ → Type 0
-Only g s = calledOf s ≡ calledBy g (spelled g) s
+Only g s = calledOf s ≡ calledBy g (functionName g) s
 
 pub only-rat : (t : List ℕ) → Only f.Rat (letter "R" ∷ t)
 unfolding calledOf leads
@@ -166,22 +166,22 @@ module _ (s : List ℕ) (a : ℕ) (d : a ≡ getD s 0 0) where
   no-first n = sym (first-unknown s (subst NoFirst d n))
 
 -- ---- a function that is called is named at the front of the text
-among-leads : (gs : List Function) (s : List ℕ) (g : Function) → calledAmong gs s ≡ By g → leads (spelled g) s ≡ true
+among-leads : (gs : List Function) (s : List ℕ) (g : Function) → calledAmong gs s ≡ By g → leads (functionName g) s ≡ true
 among-leads [] s g e = let z : _≡_ {A = ℕ} 0 1 = cc in absurd (omega arith)
-among-leads (h ∷ gs) s g e = go (leads (spelled h) s) refl e (among-leads gs s g)
+among-leads (h ∷ gs) s g e = go (leads (functionName h) s) refl e (among-leads gs s g)
   where
     go :
         (t : Bool)
-        → leads (spelled h) s ≡ t
+        → leads (functionName h) s ≡ t
         → (if t then By h else calledAmong gs s) ≡ By g
-        → (calledAmong gs s ≡ By g → leads (spelled g) s ≡ true)
-        → leads (spelled g) s ≡ true
-    go true p q k = let z : h ≡ g = cc in ap (λ (x : Function). leads (spelled x) s) (sym z) ∙ p
+        → (calledAmong gs s ≡ By g → leads (functionName g) s ≡ true)
+        → leads (functionName g) s ≡ true
+    go true p q k = let z : h ≡ g = cc in ap (λ (x : Function). leads (functionName x) s) (sym z) ∙ p
     go false p q k = k q
 
-pub called-within : (s : List ℕ) (r : Called) (g : Function) → r ≡ calledOf s → r ≡ By g → length (spelled g) ≤ length s
+pub called-within : (s : List ℕ) (r : Called) (g : Function) → r ≡ calledOf s → r ≡ By g → length (functionName g) ≤ length s
 unfolding calledOf
-called-within s r g p q = leads-within (spelled g) s (among-leads functions s g (sym p ∙ q))
+called-within s r g p q = leads-within (functionName g) s (among-leads functions s g (sym p ∙ q))
 
 -- ---- a name that leads a text is the one that is called
 -- the function that a name alone tells: its datum is 0, and PAS has whole seconds
@@ -202,7 +202,7 @@ bare f.Evr = f.Evr
 bare f.Bep = f.Bep
 bare (f.Out n) = f.Out 0
 
-pub called-is : (g : Function) (s : List ℕ) → leads (spelled g) s ≡ true → calledOf s ≡ By (bare g)
+pub called-is : (g : Function) (s : List ℕ) → leads (functionName g) s ≡ true → calledOf s ≡ By (bare g)
 unfolding calledOf leads
 called-is f.Rat s e = ap calledOf (leads-is (text "RAT") s e)
 called-is f.Inc s e = ap calledOf (leads-is (text "INC") s e)

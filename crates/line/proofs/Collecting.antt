@@ -13,8 +13,8 @@ use lib.Dec.{leb, ltb}
 use Rattle.line.specs.Characters.{standing}
 use Rattle.line.specs.Addresses.{addressOf, behindAddress}
 use Rattle.line.specs.Commands.{commandOf}
-use Rattle.line.specs.Lines.{text, allStanding, soundLine, addressIn, commandIn}
-use Rattle.line.specs.declared.commands.Command.{Command}
+use Rattle.line.specs.Lines.{text, allStanding, isSoundLine, addressIn, commandIn}
+use Rattle.words.specs.declared.commands.Command.{Command}
 use Rattle.line.specs.declared.lines.Line.{Line}
 
 -- what a length above 40 speaks of are the 40 places
@@ -75,6 +75,6 @@ module _ (l : Line) (n : ℕ) (full : length (l .bytes) ≡ 40) (e : n ≡ min (
       (t : Bool)
       → (leb (l .len) 40 && (not (l .overlong) || leb 40 (l .len))) ≡ true
       → t ≡ allStanding (take n (l .bytes))
-      → t ≡ soundLine l
-  unfolding soundLine
+      → t ≡ isSoundLine l
+  unfolding isSoundLine
   sound-kept t o p = p ∙ ap allStanding kept-text ∙ sym (simp o)

@@ -5,9 +5,9 @@ pub mod Leading
 pub mod Letters
 pub mod Naming
 pub mod Calling
-pub mod Others
 pub mod Asking
 pub mod Behind
 pub mod Collecting
 pub mod Sent
+pub mod ReadBack
 pub mod Theorems

@@ -1,7 +1,7 @@
 -- Every command that a text asks for is one that can be sent: what the readers give is writable, or has two digits at the most.
 -- Assumes nothing.
 use Prim.Native.Nat.{ℕ, _≤_}
-use mathlib.Core.Path.{_≡_, refl}
+use mathlib.Core.Path.{_≡_, refl, ap, _∙_}
 use mathlib.Core.Bool.{Bool, true, false}
 use mathlib.Core.List.{List}
 use native.Mathlib.Omega.{arith}
@@ -16,25 +16,42 @@ use Rattle.decimal.specs.declared.input.Reading.the-variants.{Number, NoNumber}
 use Rattle.decimal.specs.declared.short.Short.{Short}
 use Rattle.decimal.specs.declared.short.Short.the-variants.{Digits, NoDigits}
 use Rattle.decimal.proofs.Theorems.{read-writable, one-small, two-small, tenths-small}
-use Rattle.program.specs.Names.{spelled}
-use Rattle.program.specs.declared.functions.Function.{Function}
-use Rattle.program.specs.declared.functions.Function.the-variants as f
+use Rattle.words.specs.Functions.{datum}
+use Rattle.words.specs.Commands.{amount, shortDatum}
+use Rattle.words.specs.Spelling.{functionName}
+use Rattle.words.specs.declared.functions.Function.{Function}
+use Rattle.words.specs.declared.functions.Function.the-variants as f
 use Rattle.line.specs.Arguments as asked
-use Rattle.line.specs.Arguments.{ifNumber, ifDigits}
+use Rattle.line.specs.Arguments.{orQuery, ifNumber, ifDigits, unlessMore}
 use Rattle.line.specs.Functions as functions
 use Rattle.line.specs.Names.{nameOf, argumentOf}
-use Rattle.line.specs.Commands.{unlessMore, askedBy, commandOf}
-use Rattle.line.specs.Sendable.{ShortDatum, Sendable}
-use Rattle.line.specs.declared.arguments.Turn.{Turn}
-use Rattle.line.specs.declared.arguments.Turn.the-variants as turn
+use Rattle.line.specs.Commands.{askedBy, commandOf}
+use Rattle.line.specs.Sendable.{Sendable}
+use Rattle.line.specs.declared.arguments.Heading.{Heading}
+use Rattle.line.specs.declared.arguments.Heading.the-variants as heading
 use Rattle.line.specs.declared.names.Name.{Name}
 use Rattle.line.specs.declared.names.Name.the-variants as n
 use Rattle.line.specs.declared.functions.Called.{Called}
 use Rattle.line.specs.declared.functions.Called.the-variants.{By, NoFunction}
-use Rattle.line.specs.declared.functions.Datum.{Datum}
-use Rattle.line.specs.declared.functions.Datum.the-variants.{Absent, Digit, Pair, Decimal, NoDatum}
-use Rattle.line.specs.declared.commands.Command.{Command}
-use Rattle.line.specs.declared.commands.Command.the-variants as c
+use Rattle.words.specs.declared.commands.Command.{Command}
+use Rattle.words.specs.declared.commands.Command.the-variants as c
+
+-- a command that brings nothing, a number, a short datum
+zero-writable : writable 0 ≡ true
+unfolding writable
+zero-writable = refl
+
+nothing : (command : Command) → amount command ≡ 0 → shortDatum command ≡ 0 → Sendable command
+nothing command p q = record { number-writable = ap writable p ∙ zero-writable; datum-short = omega arith }
+
+a-number : (command : Command) → writable (amount command) ≡ true → shortDatum command ≡ 0 → Sendable command
+a-number command p q = record { number-writable = p; datum-short = omega arith }
+
+a-datum : (command : Command) → amount command ≡ 0 → shortDatum command ≤ 99 → Sendable command
+a-datum command p q = record { number-writable = ap writable p ∙ zero-writable; datum-short = q }
+
+pub malformed : Sendable c.Malformed
+malformed = nothing c.Malformed refl refl
 
 -- either of two commands, by a test
 either : (t : Bool) (a b : Command) → Sendable a → Sendable b → Sendable (if t then a else b)
@@ -50,134 +67,117 @@ if-number setting s p = go (readOf s) refl
   where
     go : (r : Reading) → readOf s ≡ r → Sendable (ifNumber setting r)
     go (Number x) e = p x (read-writable s x e)
-    go NoNumber e = tt
+    go NoNumber e = malformed
 
-if-digits : (setting : ℕ → Command) (s : List ℕ) → ((n : ℕ) → n ≤ 99 → Sendable (setting n)) → Sendable (ifDigits setting (twoOf s))
-if-digits setting s p = go (twoOf s) refl
-  where
-    go : (r : Short) → twoOf s ≡ r → Sendable (ifDigits setting r)
-    go (Digits n) e = p n (two-small s n e)
-    go NoDigits e = tt
+if-digits : (setting : ℕ → Command) (r : Short) → ((n : ℕ) → r ≡ Digits n → Sendable (setting n)) → Sendable (ifDigits setting r)
+if-digits setting (Digits n) p = p n refl
+if-digits setting NoDigits p = malformed
+
+unless-more : (s : List ℕ) (command : Command) → Sendable command → Sendable (unlessMore s command)
+unfolding unlessMore
+unless-more s command p = either (eqb (length s) 0) command c.Malformed p malformed
+
+-- a query, or else a setting
+query :
+    (s : List ℕ) (asks : Command) {sets : Command}
+    → amount asks ≡ 0
+    → shortDatum asks ≡ 0
+    → Sendable sets
+    → Sendable (orQuery asks s sets)
+query s asks {sets} p q k = either (eqb (length s) 0) asks sets (nothing asks p q) k
 
 -- ---- the datum of a function
-abbrev Small : Datum → Type 0
-Small Absent = Unit {0}
-Small (Digit n) = n ≤ 9
-Small (Pair n) = n ≤ 99
-Small (Decimal n) = n ≤ 99
-Small NoDatum = Unit {0}
+set-function : (g : Function) → datum g ≤ 99 → Sendable (c.SetFunction g)
+set-function g h = a-datum (c.SetFunction g) refl h
 
-choose : (t : Bool) (a b : Datum) → Small a → Small b → Small (if t then a else b)
-choose true a b p q = p
-choose false a b p q = q
+module _ (s : List ℕ) where
+  alone : (g : Function) → datum g ≡ 0 → Sendable (unlessMore s (c.SetFunction g))
+  alone g e = unless-more s (c.SetFunction g) (set-function g (omega arith))
 
-if-short : (kind : ℕ → Datum) (r : Short) → ((n : ℕ) → r ≡ Digits n → Small (kind n)) → Small (functions.ifShort kind r)
-if-short kind (Digits n) p = p n refl
-if-short kind NoDigits p = tt
+  one-or-two : (g : ℕ → Function) → ((n : ℕ) → datum (g n) ≡ n) → Sendable (ifDigits (λ n. c.SetFunction (g n)) (twoOf s))
+  one-or-two g e = if-digits (λ n. c.SetFunction (g n)) (twoOf s) (λ n p. set-function (g n) (omega (arith, e n, two-small s n p)))
 
-datum-small : (s : List ℕ) → Small (functions.datumOf s)
-unfolding functions.datumOf
-datum-small s =
-    choose (eqb (length s) 0) _ _ tt
-    (choose (eqb (length s) 1) _ _ (if-short Digit (oneOf s) (one-small s))
-    (choose (eqb (length s) 2) _ _ (if-short Pair (twoOf s) (two-small s)) (if-short Decimal (tenthsOf s) (tenths-small s))))
+  pause : Sendable (functions.pauseAsked s)
+  unfolding functions.pauseAsked
+  pause = go (twoOf s) refl
+    where
+      go : (r : Short) → twoOf s ≡ r → Sendable (functions.pauseBy r (tenthsOf s))
+      go (Digits n) e = set-function (f.Pas n) (two-small s n e)
+      go NoDigits e = if-digits (λ n. c.SetFunction (f.Tenths n)) (tenthsOf s) (λ n p. set-function (f.Tenths n) (tenths-small s n p))
 
-takes-none : (g : Function) (d : Datum) → ShortDatum g → Sendable (functions.takesNone g d)
-takes-none g Absent p = p
-takes-none g (Digit n) p = tt
-takes-none g (Pair n) p = tt
-takes-none g (Decimal n) p = tt
-takes-none g NoDatum p = tt
+  level : Sendable (ifDigits (λ n. c.SetFunction (f.Out n)) (oneOf s))
+  level = if-digits (λ n. c.SetFunction (f.Out n)) (oneOf s) (λ n p. set-function (f.Out n) (omega (arith, one-small s n p)))
 
-takes-digits : (g : ℕ → Function) (d : Datum) → Small d → ((n : ℕ) → n ≤ 99 → ShortDatum (g n)) → Sendable (functions.takesDigits g d)
-takes-digits g Absent h p = tt
-takes-digits g (Digit n) h p = p n (omega arith)
-takes-digits g (Pair n) h p = p n h
-takes-digits g (Decimal n) h p = tt
-takes-digits g NoDatum h p = tt
-
-takes-digit : (d : Datum) → Small d → Sendable (functions.takesDigit f.Out d)
-takes-digit Absent h = tt
-takes-digit (Digit n) h = h
-takes-digit (Pair n) h = tt
-takes-digit (Decimal n) h = tt
-takes-digit NoDatum h = tt
-
-takes-time : (d : Datum) → Small d → Sendable (functions.takesTime d)
-takes-time Absent h = tt
-takes-time (Digit n) h = omega arith
-takes-time (Pair n) h = h
-takes-time (Decimal n) h = h
-takes-time NoDatum h = tt
-
-with-datum : (g : Function) (d : Datum) → Small d → Sendable (functions.withDatum g d)
-with-datum f.Rat d h = takes-none f.Rat d tt
-with-datum f.Inc d h = takes-none f.Inc d tt
-with-datum f.Dec d h = takes-none f.Dec d tt
-with-datum f.Stp d h = takes-none f.Stp d tt
-with-datum (f.Jmp n) d h = takes-digits f.Jmp d h (λ k p. p)
-with-datum (f.Lop n) d h = takes-digits f.Lop d h (λ k p. p)
-with-datum f.Lps d h = takes-none f.Lps d tt
-with-datum f.Lpe d h = takes-none f.Lpe d tt
-with-datum (f.Pas n) d h = takes-time d h
-with-datum (f.Tenths n) d h = tt
-with-datum (f.If n) d h = takes-digits f.If d h (λ k p. p)
-with-datum (f.Evn n) d h = takes-digits f.Evn d h (λ k p. p)
-with-datum f.Evr d h = takes-none f.Evr d tt
-with-datum f.Bep d h = takes-none f.Bep d tt
-with-datum (f.Out n) d h = takes-digit d h
+  with-datum : (g : Function) → Sendable (functions.withDatum g s)
+  with-datum f.Rat = alone f.Rat refl
+  with-datum f.Inc = alone f.Inc refl
+  with-datum f.Dec = alone f.Dec refl
+  with-datum f.Stp = alone f.Stp refl
+  with-datum (f.Jmp k) = one-or-two f.Jmp (λ n. refl)
+  with-datum (f.Lop k) = one-or-two f.Lop (λ n. refl)
+  with-datum f.Lps = alone f.Lps refl
+  with-datum f.Lpe = alone f.Lpe refl
+  with-datum (f.Pas k) = pause
+  with-datum (f.Tenths k) = pause
+  with-datum (f.If k) = one-or-two f.If (λ n. refl)
+  with-datum (f.Evn k) = one-or-two f.Evn (λ n. refl)
+  with-datum f.Evr = alone f.Evr refl
+  with-datum f.Bep = alone f.Bep refl
+  with-datum (f.Out k) = level
 
 function-by : (g : Called) (s : List ℕ) → Sendable (functions.functionBy g s)
-function-by (By g) s = with-datum g (functions.datumOf (drop (length (spelled g)) s)) (datum-small (drop (length (spelled g)) s))
-function-by NoFunction s = tt
+function-by (By g) s = with-datum (drop (length (functionName g)) s) g
+function-by NoFunction s = malformed
 
 -- ---- each name
 module _ (s : List ℕ) where
-  unless-more : (command : Command) → Sendable command → Sendable (unlessMore s command)
-  unfolding unlessMore
-  unless-more command p = either (eqb (length s) 0) command c.Malformed p tt
-
   diameter : Sendable (asked.diameterAsked s)
   unfolding asked.diameterAsked
-  diameter = either (eqb (length s) 0) _ _ tt (if-number c.SetDiameter s (λ x p. p))
+  diameter = query s c.AskDiameter refl refl (if-number c.SetDiameter s (λ x p. a-number (c.SetDiameter x) p refl))
 
   rate : Sendable (asked.rateAsked s)
   unfolding asked.rateAsked
-  rate = either (eqb (length s) 0) _ _ tt (if-number (λ x. c.SetRate x (asked.unitsAtEnd s)) (asked.amountOf s) (λ x p. p))
+  rate =
+      query s c.AskRate refl refl
+      (if-number (λ x. c.SetRate x (asked.unitsAtEnd s)) (asked.amountOf s) (λ x p. a-number (c.SetRate x (asked.unitsAtEnd s)) p refl))
 
   volume : Sendable (asked.volumeAsked s)
   unfolding asked.volumeAsked
-  volume = either (eqb (length s) 0) _ _ tt (if-number c.SetVolume s (λ x p. p))
+  volume = query s c.AskVolume refl refl (if-number c.SetVolume s (λ x p. a-number (c.SetVolume x) p refl))
 
   direction : Sendable (asked.directionAsked s)
   unfolding asked.directionAsked
-  direction = either (eqb (length s) 0) _ _ tt (go (asked.turnOf s))
+  direction = query s c.AskDirection refl refl (go (asked.headingOf s))
     where
-      go : (t : Turn) → Sendable (asked.directionBy t)
-      go (turn.To d) = tt
-      go turn.Reverse = tt
-      go turn.NoTurn = tt
+      go : (t : Heading) → Sendable (asked.directionBy t)
+      go (heading.To d) = nothing (c.SetDirection d) refl refl
+      go heading.Reverse = nothing c.Reverse refl refl
+      go heading.NoHeading = malformed
 
   clear : Sendable (asked.clearAsked s)
   unfolding asked.clearAsked
-  clear = go (asked.turnOf s)
+  clear = go (asked.headingOf s)
     where
-      go : (t : Turn) → Sendable (asked.clearBy t)
-      go (turn.To d) = tt
-      go turn.Reverse = tt
-      go turn.NoTurn = tt
+      go : (t : Heading) → Sendable (asked.clearBy t)
+      go (heading.To d) = nothing (c.Clear d) refl refl
+      go heading.Reverse = malformed
+      go heading.NoHeading = malformed
 
   phase : Sendable (asked.phaseAsked s)
   unfolding asked.phaseAsked
-  phase = either (eqb (length s) 0) _ _ tt (if-digits c.SetPhase s (λ k p. p))
+  phase =
+      query s c.AskPhase refl refl
+      (if-digits c.SetPhase (twoOf s) (λ n p. a-datum (c.SetPhase n) refl (two-small s n p)))
 
   run : Sendable (asked.runAsked s)
   unfolding asked.runAsked
-  run = either (eqb (length s) 0) _ _ tt (if-digits c.RunFrom s (λ k p. p))
+  run =
+      query s c.Run refl refl
+      (if-digits c.RunFrom (twoOf s) (λ n p. a-datum (c.RunFrom n) refl (two-small s n p)))
 
   function : Sendable (functions.functionAsked s)
   unfolding functions.functionAsked
-  function = either (eqb (length s) 0) _ _ tt (function-by (functions.calledOf s) s)
+  function = query s c.AskFunction refl refl (function-by (functions.calledOf s) s)
 
 by-name : (name : Name) (s : List ℕ) → Sendable (askedBy name s)
 by-name n.Dia s = diameter s
@@ -187,12 +187,12 @@ by-name n.Dir s = direction s
 by-name n.Phn s = phase s
 by-name n.Fun s = function s
 by-name n.Run s = run s
-by-name n.Stp s = unless-more s c.Stop tt
-by-name n.Dis s = unless-more s c.AskDispensed tt
+by-name n.Stp s = unless-more s c.Stop (nothing c.Stop refl refl)
+by-name n.Dis s = unless-more s c.AskDispensed (nothing c.AskDispensed refl refl)
 by-name n.Cld s = clear s
-by-name n.Reset s = unless-more s c.Reset tt
-by-name n.Unknown s = tt
+by-name n.Reset s = unless-more s c.Reset (nothing c.Reset refl refl)
+by-name n.Unknown s = malformed
 
 pub command-sendable : (s : List ℕ) → Sendable (commandOf s)
 unfolding commandOf
-command-sendable s = either (eqb (length s) 0) _ _ tt (by-name (nameOf s) (argumentOf s))
+command-sendable s = query s c.Status refl refl (by-name (nameOf s) (argumentOf s))

@@ -1,9 +1,11 @@
 -- What the definitions of a line say together:
---     collected        whatever bytes come, a line holds the first 40 of their characters, and is over-long if there are more
+--     collected        whatever bytes but the return come, a line holds the first 40 of their characters, and is over-long if
+--                      there are more
 --     empty-sound      the empty line is sound
 --     byte-sound       a sound line is sound after any byte; places-kept: it keeps its 40 places
 --     asked-sendable   what a line asks for can be sent: its numbers are writable, its short data have two digits at the most
--- That a name which leads a text is its name stands in Naming (name-is) and Calling (called-is).
+-- That a name which leads a text is its name stands in Naming (name-is) and Calling (called-is), that what is printed reads back
+-- in ReadBack.
 -- Assumes nothing.
 use Prim.Native.Nat.{ℕ, _+_, _-_, _≤_, _<_, min}
 use mathlib.Core.Path.{_≡_, refl, sym, ap, subst, _∙_}
@@ -19,7 +21,7 @@ use Rattle.base.specs.If.{if_then_else_}
 use Rattle.base.proofs.Choices.{and-left, and-right}
 use Rattle.line.specs.Characters.{isReturn, isDropped, isLower, raised, arrivalOf, standing}
 use Rattle.line.specs.Lines.{emptyLine, withCharacter, afterArrival, afterByte, text}
-use Rattle.line.specs.Lines.{allStanding, soundLine, commandIn, kept, overLong}
+use Rattle.line.specs.Lines.{allStanding, isSoundLine, commandIn, kept, overLong}
 use Rattle.line.specs.Addresses.{behindAddress}
 use Rattle.line.specs.Collected.{collect, characters, Holds}
 use Rattle.line.specs.Commands.{commandOf}
@@ -27,9 +29,9 @@ use Rattle.line.specs.Sendable.{Sendable}
 use Rattle.line.specs.declared.arriving.Arrival.{Arrival}
 use Rattle.line.specs.declared.arriving.Arrival.the-variants.{End, Dropped, Kept}
 use Rattle.line.specs.declared.lines.Line.{Line}
-use Rattle.line.specs.declared.commands.Command.the-variants as c
+use Rattle.words.specs.declared.commands.Command.the-variants as c
 use Rattle.line.proofs.Characters.{not-dropped, below-lower}
-use Rattle.line.proofs.Sent.{command-sendable}
+use Rattle.line.proofs.Sent.{malformed, command-sendable}
 
 -- ---- collecting
 -- what a line under way keeps to, with the characters so far
@@ -120,8 +122,8 @@ pub collected : (bs : List ℕ) → Holds (collect emptyLine bs) (characters bs)
 collected bs = let u = collecting emptyLine [] bs none-yet in record { kept = u .kept; more = u .more }
 
 -- ---- soundness
-pub empty-sound : soundLine emptyLine ≡ true
-unfolding soundLine allStanding
+pub empty-sound : isSoundLine emptyLine ≡ true
+unfolding isSoundLine allStanding
 empty-sound = refl
 
 -- a letter that was raised is neither dropped nor raised again
@@ -158,8 +160,8 @@ record Sound (l : Line) : Type 0 where
   over : (not (l .overlong) || leb 40 (l .len)) ≡ true
   stand : allStanding (text l) ≡ true
 
-sound-facts : (l : Line) → soundLine l ≡ true → Sound l
-unfolding soundLine
+sound-facts : (l : Line) → isSoundLine l ≡ true → Sound l
+unfolding isSoundLine
 sound-facts l e =
     let p = and-left (leb (l .len) 40 && (not (l .overlong) || leb 40 (l .len))) (allStanding (text l)) e in
     record {
@@ -168,8 +170,8 @@ sound-facts l e =
       stand = and-right (leb (l .len) 40 && (not (l .overlong) || leb 40 (l .len))) (allStanding (text l)) e;
     }
 
-facts-sound : (l : Line) → Sound l → soundLine l ≡ true
-unfolding soundLine
+facts-sound : (l : Line) → Sound l → isSoundLine l ≡ true
+unfolding isSoundLine
 facts-sound l s = simp (le-leb (l .len) 40 (s .short), s .over, s .stand)
 
 -- a line that is not full is not over-long
@@ -196,14 +198,14 @@ character-sound l c p q s = go (ltb (l .len) 40) refl
     go false e =
         record { short = s .short; over = le-leb 40 (l .len) (ltb-false (l .len) 40 e); stand = s .stand }
 
-pub byte-sound : (l : Line) (b : ℕ) → length (l .bytes) ≡ 40 → soundLine l ≡ true → soundLine (afterByte l b .line) ≡ true
+pub byte-sound : (l : Line) (b : ℕ) → length (l .bytes) ≡ 40 → isSoundLine l ≡ true → isSoundLine (afterByte l b .line) ≡ true
 unfolding afterByte arrivalOf
 byte-sound l b p e = go (isReturn b) (isDropped b) refl
   where
     go :
         (r d : Bool)
         → isDropped b ≡ d
-        → soundLine (afterArrival l (if r then End else if d then Dropped else Kept (raised b)) .line) ≡ true
+        → isSoundLine (afterArrival l (if r then End else if d then Dropped else Kept (raised b)) .line) ≡ true
     go true d k = e
     go false true k = e
     go false false k =
@@ -228,5 +230,5 @@ unfolding commandIn
 asked-sendable l = go (l .overlong)
   where
     go : (t : Bool) → Sendable (if t then c.Malformed else commandOf (behindAddress (text l)))
-    go true = tt
+    go true = malformed
     go false = command-sendable (behindAddress (text l))

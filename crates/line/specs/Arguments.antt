@@ -1,26 +1,28 @@
 -- What an argument asks for. No argument is a query; a number, a phase or a direction is a setting; anything else is malformed.
 -- A number may be out of range here: that is judged later.   (01, Commands)
 use Prim.Native.Nat.{ℕ, _-_}
-use mathlib.Core.List.{List}
-use lib.Dec.{ltb, eqb}
-use lib.ListN.{length, getD, take}
+use mathlib.Core.List.{List, [], _∷_}
+use lib.Dec.{eqb}
+use lib.ListN.{length, take, drop}
 use Rattle.base.specs.If.{if_then_else_}
-use Rattle.base.specs.Text.{letter, text}
+use Rattle.base.specs.Text.{text}
 use Rattle.decimal.specs.Read.{readOf}
 use Rattle.decimal.specs.Short.{twoOf}
 use Rattle.decimal.specs.declared.input.Reading.{Reading}
 use Rattle.decimal.specs.declared.input.Reading.the-variants.{Number, NoNumber}
 use Rattle.decimal.specs.declared.short.Short.{Short}
 use Rattle.decimal.specs.declared.short.Short.the-variants.{Digits, NoDigits}
+use Rattle.drive.specs.declared.rates.RateUnit.{RateUnit}
 use Rattle.drive.specs.declared.rates.RateUnit.the-variants.{Um, Mm, Uh, Mh}
-use Rattle.program.specs.declared.phases.Direction.the-variants.{Infuse, Withdraw}
+use Rattle.words.specs.Spelling.{rateUnitName, directionName}
+use Rattle.words.specs.declared.phases.Direction.the-variants.{Infuse, Withdraw}
 use Rattle.line.specs.Spelling.{isText}
-use Rattle.line.specs.declared.arguments.Units.{Units}
-use Rattle.line.specs.declared.arguments.Units.the-variants.{Own, Given}
-use Rattle.line.specs.declared.arguments.Turn.{Turn}
-use Rattle.line.specs.declared.arguments.Turn.the-variants as turn
-use Rattle.line.specs.declared.commands.Command.{Command}
-use Rattle.line.specs.declared.commands.Command.the-variants as c
+use Rattle.words.specs.declared.commands.Units.{Units}
+use Rattle.words.specs.declared.commands.Units.the-variants.{Own, Given}
+use Rattle.line.specs.declared.arguments.Heading.{Heading}
+use Rattle.line.specs.declared.arguments.Heading.the-variants as heading
+use Rattle.words.specs.declared.commands.Command.{Command}
+use Rattle.words.specs.declared.commands.Command.the-variants as c
 
 -- a query where nothing stands behind the name
 abbrev pub orQuery : Command → List ℕ → Command → Command
@@ -44,18 +46,17 @@ diameterAsked s = orQuery c.AskDiameter s (ifNumber c.SetDiameter (readOf s))
 unfoldable pub volumeAsked : List ℕ → Command
 volumeAsked s = orQuery c.AskVolume s (ifNumber c.SetVolume (readOf s))
 
--- two letters as units
-unfoldable pub unitsOf : ℕ → ℕ → Units
-unitsOf a b =
-    if eqb a (letter "U")
-    then if eqb b (letter "M") then Given Um else if eqb b (letter "H") then Given Uh else Own
-    else if eqb a (letter "M")
-    then if eqb b (letter "M") then Given Mm else if eqb b (letter "H") then Given Mh else Own
-    else Own
+-- the unit, among some, whose name a text is
+abbrev pub unitsAmong : List RateUnit → List ℕ → Units
+unitsAmong [] s = Own
+unitsAmong (u ∷ us) s = if isText (rateUnitName u) s then Given u else unitsAmong us s
 
--- the units at the end of a text; with none the phase's own stay
+unfoldable pub unitsOf : List ℕ → Units
+unitsOf s = unitsAmong (Um ∷ Mm ∷ Uh ∷ Mh ∷ []) s
+
+-- the units that the last two letters of a text are; with none the phase's own stay
 unfoldable pub unitsAtEnd : List ℕ → Units
-unitsAtEnd s = if ltb (length s) 2 then Own else unitsOf (getD s (length s - 2) 0) (getD s (length s - 1) 0)
+unitsAtEnd s = unitsOf (drop (length s - 2) s)
 
 -- the text without them
 abbrev pub withoutUnits : Units → List ℕ → List ℕ
@@ -69,34 +70,35 @@ amountOf s = withoutUnits (unitsAtEnd s) s
 unfoldable pub rateAsked : List ℕ → Command
 rateAsked s = orQuery c.AskRate s (ifNumber (λ x. c.SetRate x (unitsAtEnd s)) (readOf (amountOf s)))
 
--- INF, WDR or REV
-unfoldable pub turnOf : List ℕ → Turn
-turnOf s =
-    if isText (text "INF") s
-    then turn.To Infuse
-    else if isText (text "WDR") s
-    then turn.To Withdraw
-    else if isText (text "REV") s
-    then turn.Reverse
-    else turn.NoTurn
+-- INF, WDR or REV, and no more
+abbrev pub headedBy : Heading → List ℕ → List ℕ → Heading
+headedBy h word s = if isText word s then h else heading.NoHeading
+
+unfoldable pub headingOf : List ℕ → Heading
+headingOf s =
+    if isText (directionName Infuse) s
+    then heading.To Infuse
+    else if isText (directionName Withdraw) s
+    then heading.To Withdraw
+    else headedBy heading.Reverse (text "REV") s
 
 -- DIR INF, DIR WDR, DIR REV
-abbrev pub directionBy : Turn → Command
-directionBy (turn.To d) = c.SetDirection d
-directionBy turn.Reverse = c.Reverse
-directionBy turn.NoTurn = c.Malformed
+abbrev pub directionBy : Heading → Command
+directionBy (heading.To d) = c.SetDirection d
+directionBy heading.Reverse = c.Reverse
+directionBy heading.NoHeading = c.Malformed
 
 unfoldable pub directionAsked : List ℕ → Command
-directionAsked s = orQuery c.AskDirection s (directionBy (turnOf s))
+directionAsked s = orQuery c.AskDirection s (directionBy (headingOf s))
 
 -- CLD INF, CLD WDR; CLD with no argument is malformed
-abbrev pub clearBy : Turn → Command
-clearBy (turn.To d) = c.Clear d
-clearBy turn.Reverse = c.Malformed
-clearBy turn.NoTurn = c.Malformed
+abbrev pub clearBy : Heading → Command
+clearBy (heading.To d) = c.Clear d
+clearBy heading.Reverse = c.Malformed
+clearBy heading.NoHeading = c.Malformed
 
 unfoldable pub clearAsked : List ℕ → Command
-clearAsked s = clearBy (turnOf s)
+clearAsked s = clearBy (headingOf s)
 
 -- PHN n
 unfoldable pub phaseAsked : List ℕ → Command
@@ -105,3 +107,7 @@ phaseAsked s = orQuery c.AskPhase s (ifDigits c.SetPhase (twoOf s))
 -- RUN, RUN n
 unfoldable pub runAsked : List ℕ → Command
 runAsked s = orQuery c.Run s (ifDigits c.RunFrom (twoOf s))
+
+-- a command with no argument, a function with no datum: whatever stands there is malformed
+unfoldable pub unlessMore : List ℕ → Command → Command
+unlessMore s command = if eqb (length s) 0 then command else c.Malformed

@@ -5,16 +5,12 @@ use lib.Dec.{eqb}
 use lib.ListN.{length}
 use Rattle.base.specs.If.{if_then_else_}
 use Rattle.line.specs.Names.{nameOf, argumentOf}
-use Rattle.line.specs.Arguments.{diameterAsked, rateAsked, volumeAsked, directionAsked, phaseAsked, runAsked, clearAsked}
+use Rattle.line.specs.Arguments.{diameterAsked, rateAsked, volumeAsked, directionAsked, phaseAsked, runAsked, clearAsked, unlessMore}
 use Rattle.line.specs.Functions.{functionAsked}
 use Rattle.line.specs.declared.names.Name.{Name}
 use Rattle.line.specs.declared.names.Name.the-variants as n
-use Rattle.line.specs.declared.commands.Command.{Command}
-use Rattle.line.specs.declared.commands.Command.the-variants as c
-
--- a command with no argument: any argument is malformed
-unfoldable pub unlessMore : List ℕ → Command → Command
-unlessMore s command = if eqb (length s) 0 then command else c.Malformed
+use Rattle.words.specs.declared.commands.Command.{Command}
+use Rattle.words.specs.declared.commands.Command.the-variants as c
 
 -- what each name's argument asks for
 abbrev pub askedBy : Name → List ℕ → Command

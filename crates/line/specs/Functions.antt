@@ -8,16 +8,15 @@ use Rattle.base.specs.If.{if_then_else_}
 use Rattle.decimal.specs.Short.{oneOf, twoOf, tenthsOf}
 use Rattle.decimal.specs.declared.short.Short.{Short}
 use Rattle.decimal.specs.declared.short.Short.the-variants.{Digits, NoDigits}
-use Rattle.program.specs.Names.{spelled}
-use Rattle.program.specs.declared.functions.Function.{Function}
-use Rattle.program.specs.declared.functions.Function.the-variants as f
+use Rattle.words.specs.Spelling.{functionName}
+use Rattle.words.specs.declared.functions.Function.{Function}
+use Rattle.words.specs.declared.functions.Function.the-variants as f
 use Rattle.line.specs.Spelling.{leads}
+use Rattle.line.specs.Arguments.{ifDigits, unlessMore}
 use Rattle.line.specs.declared.functions.Called.{Called}
 use Rattle.line.specs.declared.functions.Called.the-variants.{By, NoFunction}
-use Rattle.line.specs.declared.functions.Datum.{Datum}
-use Rattle.line.specs.declared.functions.Datum.the-variants.{Absent, Digit, Pair, Decimal, NoDatum}
-use Rattle.line.specs.declared.commands.Command.{Command}
-use Rattle.line.specs.declared.commands.Command.the-variants.{AskFunction, SetFunction, Malformed}
+use Rattle.words.specs.declared.commands.Command.{Command}
+use Rattle.words.specs.declared.commands.Command.the-variants.{AskFunction, SetFunction, Malformed}
 
 -- a function, if its name leads the text
 abbrev pub calledBy : Function → List ℕ → List ℕ → Called
@@ -26,7 +25,7 @@ calledBy g name s = if leads name s then By g else NoFunction
 -- the first of some functions whose name leads the text
 abbrev pub calledAmong : List Function → List ℕ → Called
 calledAmong [] s = NoFunction
-calledAmong (g ∷ gs) s = if leads (spelled g) s then By g else calledAmong gs s
+calledAmong (g ∷ gs) s = if leads (functionName g) s then By g else calledAmong gs s
 
 -- the fourteen names, each with the datum 0, since PAS is one name; none leads another (proofs/Calling.antt, called-is)
 abbrev pub functions : List Function
@@ -50,76 +49,56 @@ functions =
 unfoldable pub calledOf : List ℕ → Called
 calledOf s = calledAmong functions s
 
--- a datum, if the text is one of its kind
-abbrev pub ifShort : (ℕ → Datum) → Short → Datum
-ifShort kind (Digits n) = kind n
-ifShort kind NoDigits = NoDatum
+-- a function with another datum; one that takes none stays as it is
+abbrev pub holding : Function → ℕ → Function
+holding f.Rat n = f.Rat
+holding f.Inc n = f.Inc
+holding f.Dec n = f.Dec
+holding f.Stp n = f.Stp
+holding (f.Jmp _) n = f.Jmp n
+holding (f.Lop _) n = f.Lop n
+holding f.Lps n = f.Lps
+holding f.Lpe n = f.Lpe
+holding (f.Pas _) n = f.Pas n
+holding (f.Tenths _) n = f.Tenths n
+holding (f.If _) n = f.If n
+holding (f.Evn _) n = f.Evn n
+holding f.Evr n = f.Evr
+holding f.Bep n = f.Bep
+holding (f.Out _) n = f.Out n
 
--- by its length a datum can be of one kind only
-unfoldable pub datumOf : List ℕ → Datum
-datumOf s =
-    if eqb (length s) 0
-    then Absent
-    else if eqb (length s) 1
-    then ifShort Digit (oneOf s)
-    else if eqb (length s) 2
-    then ifShort Pair (twoOf s)
-    else ifShort Decimal (tenthsOf s)
+abbrev pub ifHeld : Function → Short → Command
+ifHeld g digits = ifDigits (λ n. SetFunction (holding g n)) digits
 
--- ---- what each kind of function takes
--- no datum
-abbrev pub takesNone : Function → Datum → Command
-takesNone g Absent = SetFunction g
-takesNone g (Digit n) = Malformed
-takesNone g (Pair n) = Malformed
-takesNone g (Decimal n) = Malformed
-takesNone g NoDatum = Malformed
+-- PAS: one or two digits are seconds; digit, point, digit are kept as tenths
+abbrev pub pauseBy : Short → Short → Command
+pauseBy (Digits n) tenths = SetFunction (f.Pas n)
+pauseBy NoDigits tenths = ifDigits (λ n. SetFunction (f.Tenths n)) tenths
 
--- one or two digits
-abbrev pub takesDigits : (ℕ → Function) → Datum → Command
-takesDigits g Absent = Malformed
-takesDigits g (Digit n) = SetFunction (g n)
-takesDigits g (Pair n) = SetFunction (g n)
-takesDigits g (Decimal n) = Malformed
-takesDigits g NoDatum = Malformed
+unfoldable pub pauseAsked : List ℕ → Command
+pauseAsked s = pauseBy (twoOf s) (tenthsOf s)
 
--- one digit
-abbrev pub takesDigit : (ℕ → Function) → Datum → Command
-takesDigit g Absent = Malformed
-takesDigit g (Digit n) = SetFunction (g n)
-takesDigit g (Pair n) = Malformed
-takesDigit g (Decimal n) = Malformed
-takesDigit g NoDatum = Malformed
-
--- whole seconds or tenths
-abbrev pub takesTime : Datum → Command
-takesTime Absent = Malformed
-takesTime (Digit n) = SetFunction (f.Pas n)
-takesTime (Pair n) = SetFunction (f.Pas n)
-takesTime (Decimal n) = SetFunction (f.Tenths n)
-takesTime NoDatum = Malformed
-
--- the function that was named, with the datum that was sent; tenths have no name of their own
-abbrev pub withDatum : Function → Datum → Command
-withDatum f.Rat d = takesNone f.Rat d
-withDatum f.Inc d = takesNone f.Inc d
-withDatum f.Dec d = takesNone f.Dec d
-withDatum f.Stp d = takesNone f.Stp d
-withDatum (f.Jmp _) d = takesDigits f.Jmp d
-withDatum (f.Lop _) d = takesDigits f.Lop d
-withDatum f.Lps d = takesNone f.Lps d
-withDatum f.Lpe d = takesNone f.Lpe d
-withDatum (f.Pas _) d = takesTime d
-withDatum (f.Tenths _) d = Malformed
-withDatum (f.If _) d = takesDigits f.If d
-withDatum (f.Evn _) d = takesDigits f.Evn d
-withDatum f.Evr d = takesNone f.Evr d
-withDatum f.Bep d = takesNone f.Bep d
-withDatum (f.Out _) d = takesDigit f.Out d
+-- what may stand behind each name: nothing; one or two digits; for PAS also tenths; for OUT one digit
+abbrev pub withDatum : Function → List ℕ → Command
+withDatum f.Rat s = unlessMore s (SetFunction f.Rat)
+withDatum f.Inc s = unlessMore s (SetFunction f.Inc)
+withDatum f.Dec s = unlessMore s (SetFunction f.Dec)
+withDatum f.Stp s = unlessMore s (SetFunction f.Stp)
+withDatum (f.Jmp _) s = ifDigits (λ n. SetFunction (f.Jmp n)) (twoOf s)
+withDatum (f.Lop _) s = ifDigits (λ n. SetFunction (f.Lop n)) (twoOf s)
+withDatum f.Lps s = unlessMore s (SetFunction f.Lps)
+withDatum f.Lpe s = unlessMore s (SetFunction f.Lpe)
+withDatum (f.Pas _) s = pauseAsked s
+withDatum (f.Tenths _) s = pauseAsked s
+withDatum (f.If _) s = ifDigits (λ n. SetFunction (f.If n)) (twoOf s)
+withDatum (f.Evn _) s = ifDigits (λ n. SetFunction (f.Evn n)) (twoOf s)
+withDatum f.Evr s = unlessMore s (SetFunction f.Evr)
+withDatum f.Bep s = unlessMore s (SetFunction f.Bep)
+withDatum (f.Out _) s = ifDigits (λ n. SetFunction (f.Out n)) (oneOf s)
 
 -- FUN f
 abbrev pub functionBy : Called → List ℕ → Command
-functionBy (By g) s = withDatum g (datumOf (drop (length (spelled g)) s))
+functionBy (By g) s = withDatum g (drop (length (functionName g)) s)
 functionBy NoFunction s = Malformed
 
 unfoldable pub functionAsked : List ℕ → Command

@@ -13,8 +13,8 @@ use Rattle.line.specs.declared.arriving.Arrival.{Arrival}
 use Rattle.line.specs.declared.arriving.Arrival.the-variants.{End, Dropped, Kept}
 use Rattle.line.specs.declared.lines.Line.{Line}
 use Rattle.line.specs.declared.lines.Arrived.{Arrived}
-use Rattle.line.specs.declared.commands.Command.{Command}
-use Rattle.line.specs.declared.commands.Command.the-variants.{Malformed}
+use Rattle.words.specs.declared.commands.Command.{Command}
+use Rattle.words.specs.declared.commands.Command.the-variants.{Malformed}
 
 -- no character, zeros in every place
 abbrev pub emptyLine : Line
@@ -51,8 +51,8 @@ allStanding [] = true
 allStanding (c ∷ s) = standing c && allStanding s
 
 -- at most 40 characters, over-long only with 40, each character one that a line can hold
-unfoldable pub soundLine : Line → Bool
-soundLine l = leb (l .len) 40 && (not (l .overlong) || leb 40 (l .len)) && allStanding (text l)
+unfoldable pub isSoundLine : Line → Bool
+isSoundLine l = leb (l .len) 40 && (not (l .overlong) || leb 40 (l .len)) && allStanding (text l)
 
 -- the address that a line bears
 unfoldable pub addressIn : Line → ℕ

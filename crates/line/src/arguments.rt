@@ -1,25 +1,22 @@
 // What stands behind a name: nothing, a number, a rate with or without its units, a direction, a phase.
 ghost use mathlib.Core.Path.{_≡_};
-ghost use Rattle.line.specs.Arguments.{unitsOf, unitsAtEnd, amountOf, turnOf};
+ghost use mathlib.Core.List.{[], _∷_};
+ghost use Rattle.line.specs.Arguments.{unitsOf, unitsAtEnd, amountOf, headingOf, headedBy, unlessMore};
 ghost use Rattle.line.specs.Arguments.{diameterAsked, volumeAsked, rateAsked, directionAsked, clearAsked, phaseAsked, runAsked};
-use crate::commands::Command;
 use crate::spelling::is_text;
+use crate::spelling::letter;
 use decimal::Reading;
 use decimal::Short;
 use drive::RateUnit;
-use program::Direction;
-
-// The units that a rate was sent with.
-pub enum Units {
-    Own,
-    Given(RateUnit),
-}
+use words::Command;
+use words::Direction;
+use words::Units;
 
 // A direction as DIR and CLD name it.
-pub enum Turn {
+pub enum Heading {
     To(Direction),
     Reverse,
-    NoTurn,
+    NoHeading,
 }
 
 // DIA
@@ -76,7 +73,7 @@ fn units_at_end(s: &[u8]) -> Units
 
 // The units of two letters.
 fn units_of(volume: u8, time: u8) -> Units
-    ensures { λ r. ⌜ r ≡ unitsOf volume time ⌝ }
+    ensures { λ r. ⌜ r ≡ unitsOf (volume ∷ time ∷ []) ⌝ }
 {
     match volume {
         b'U' => match time {
@@ -113,10 +110,10 @@ pub fn direction_asked(s: &[u8]) -> Command
     if s.len() == 0 {
         return Command::AskDirection;
     }
-    match turn_of(s) {
-        Turn::To(d) => Command::SetDirection(d),
-        Turn::Reverse => Command::Reverse,
-        Turn::NoTurn => Command::Malformed,
+    match heading_of(s) {
+        Heading::To(d) => Command::SetDirection(d),
+        Heading::Reverse => Command::Reverse,
+        Heading::NoHeading => Command::Malformed,
     }
 }
 
@@ -124,26 +121,33 @@ pub fn direction_asked(s: &[u8]) -> Command
 pub fn clear_asked(s: &[u8]) -> Command
     ensures { λ r. ⌜ r ≡ clearAsked (now (s .entry)) ⌝ }
 {
-    match turn_of(s) {
-        Turn::To(d) => Command::Clear(d),
-        Turn::Reverse => Command::Malformed,
-        Turn::NoTurn => Command::Malformed,
+    match heading_of(s) {
+        Heading::To(d) => Command::Clear(d),
+        Heading::Reverse => Command::Malformed,
+        Heading::NoHeading => Command::Malformed,
     }
 }
 
-fn turn_of(s: &[u8]) -> Turn
-    ensures { λ r. ⌜ r ≡ turnOf (now (s .entry)) ⌝ }
+// The first letter tells which word it can be.
+fn heading_of(s: &[u8]) -> Heading
+    ensures { λ r. ⌜ r ≡ headingOf (now (s .entry)) ⌝ }
 {
-    if is_text(b"INF", s) {
-        return Turn::To(Direction::Infuse);
+    match letter(s, 0) {
+        b'I' => headed_by(Heading::To(Direction::Infuse), b"INF", s),
+        b'W' => headed_by(Heading::To(Direction::Withdraw), b"WDR", s),
+        b'R' => headed_by(Heading::Reverse, b"REV", s),
+        _ => Heading::NoHeading,
     }
-    if is_text(b"WDR", s) {
-        return Turn::To(Direction::Withdraw);
+}
+
+// `heading` if `s` is its word.
+fn headed_by(heading: Heading, word: &[u8], s: &[u8]) -> Heading
+    ensures { λ r. ⌜ r ≡ headedBy heading (now (word .entry)) (now (s .entry)) ⌝ }
+{
+    if is_text(word, s) {
+        return heading;
     }
-    if is_text(b"REV", s) {
-        return Turn::Reverse;
-    }
-    Turn::NoTurn
+    Heading::NoHeading
 }
 
 // PHN
@@ -170,4 +174,14 @@ pub fn run_asked(s: &[u8]) -> Command
         Short::Digits(n) => Command::RunFrom(n),
         Short::NoDigits => Command::Malformed,
     }
+}
+
+// A command that takes no argument, or a function that takes no datum.
+pub fn unless_more(s: &[u8], command: Command) -> Command
+    ensures { λ r. ⌜ r ≡ unlessMore (now (s .entry)) command ⌝ }
+{
+    if s.len() == 0 {
+        return command;
+    }
+    Command::Malformed
 }

@@ -1,46 +1,19 @@
-// The commands as the pump is asked for them. Numbers are in thousandths; data may be out of range here.
+// The command that a text asks for, malformed among them; data may be out of range here.
 ghost use mathlib.Core.Path.{_≡_};
-ghost use Rattle.line.specs.Commands.{commandOf, unlessMore};
-use crate::arguments::Units;
+ghost use Rattle.line.specs.Commands.{commandOf};
 use crate::arguments::clear_asked;
 use crate::arguments::diameter_asked;
 use crate::arguments::direction_asked;
 use crate::arguments::phase_asked;
 use crate::arguments::rate_asked;
 use crate::arguments::run_asked;
+use crate::arguments::unless_more;
 use crate::arguments::volume_asked;
 use crate::functions::function_asked;
 use crate::names::Name;
 use crate::names::argument_of;
 use crate::names::name_of;
-use program::Direction;
-use program::Function;
-
-pub enum Command {
-    // an over-long line, an unknown name or a malformed argument
-    Malformed,
-    // the empty command
-    Status,
-    AskDiameter,
-    SetDiameter(u32),
-    AskRate,
-    SetRate(u32, Units),
-    AskVolume,
-    SetVolume(u32),
-    AskDirection,
-    SetDirection(Direction),
-    Reverse,
-    AskPhase,
-    SetPhase(u8),
-    AskFunction,
-    SetFunction(Function),
-    Run,
-    RunFrom(u8),
-    Stop,
-    AskDispensed,
-    Clear(Direction),
-    Reset,
-}
+use words::Command;
 
 // The command that a text asks for, its address taken off.
 pub fn command_of(s: &[u8]) -> Command
@@ -64,14 +37,4 @@ pub fn command_of(s: &[u8]) -> Command
         Name::Reset => unless_more(rest, Command::Reset),
         Name::Unknown => Command::Malformed,
     }
-}
-
-// A command that takes no argument.
-fn unless_more(s: &[u8], command: Command) -> Command
-    ensures { λ r. ⌜ r ≡ unlessMore (now (s .entry)) command ⌝ }
-{
-    if s.len() == 0 {
-        return command;
-    }
-    Command::Malformed
 }

@@ -1,30 +1,19 @@
 // What stands behind FUN: the name of a function, and its datum.
 ghost use mathlib.Core.Path.{_≡_};
 ghost use lib.ListN.{length};
-ghost use Rattle.program.specs.Names.{spelled};
-ghost use Rattle.line.specs.Functions.{calledOf, calledBy, datumOf, withDatum, functionAsked};
-use crate::commands::Command;
+ghost use Rattle.words.specs.Spelling.{functionName};
+ghost use Rattle.line.specs.Functions.{calledOf, calledBy, holding, ifHeld, pauseAsked, withDatum, functionAsked};
+use crate::arguments::unless_more;
 use crate::spelling::leads;
 use crate::spelling::letter;
 use decimal::Short;
-use program::Function;
+use words::Command;
+use words::Function;
 
 // The function whose name leads a text; its datum is still 0.
 pub enum Called {
     By(Function),
     NoFunction,
-}
-
-// What stands behind a function's name.
-pub enum Datum {
-    Absent,
-    // one digit
-    Digit(u8),
-    // two digits
-    Pair(u8),
-    // digit, point, digit
-    Decimal(u8),
-    NoDatum,
 }
 
 // FUN
@@ -37,7 +26,7 @@ pub fn function_asked(s: &[u8]) -> Command
     match called_in(s) {
         Called::By(f) => {
             let n = width(f);
-            with_datum(f, datum_of(&s[n..]))
+            with_datum(f, &s[n..])
         }
         Called::NoFunction => Command::Malformed,
     }
@@ -88,112 +77,72 @@ fn called_by(f: Function, name: &[u8], s: &[u8]) -> Called
     Called::NoFunction
 }
 
-// How many letters a function's name has.
+// How many letters a function's name has: IF two, every other three.
 fn width(f: Function) -> usize
-    ensures { λ r. ⌜ r ≡ length (spelled f) ⌝ }
+    ensures { λ r. ⌜ r ≡ length (functionName f) ⌝ }
+{
+    if f.number() == 10 {
+        return 2;
+    }
+    3
+}
+
+// A function with what stands behind its name, if that is of the kind that the function takes.
+fn with_datum(f: Function, s: &[u8]) -> Command
+    ensures { λ r. ⌜ r ≡ withDatum f (now (s .entry)) ⌝ }
+{
+    let n = f.number();
+    if (n == 4) | (n == 5) | (n == 10) | (n == 11) {
+        return if_held(f, decimal::read_two(s));
+    }
+    if (n == 8) | (n == 9) {
+        return pause_asked(s);
+    }
+    if n == 14 {
+        return if_held(f, decimal::read_one(s));
+    }
+    unless_more(s, Command::SetFunction(f))
+}
+
+// PAS: whole seconds, or tenths.
+fn pause_asked(s: &[u8]) -> Command
+    ensures { λ r. ⌜ r ≡ pauseAsked (now (s .entry)) ⌝ }
+{
+    match decimal::read_two(s) {
+        Short::Digits(n) => Command::SetFunction(Function::Pas(n)),
+        Short::NoDigits => if_held(Function::Tenths(0), decimal::read_tenths(s)),
+    }
+}
+
+// `f` with the digits that were read, if there were any.
+fn if_held(f: Function, digits: Short) -> Command
+    ensures { λ r. ⌜ r ≡ ifHeld f digits ⌝ }
+{
+    match digits {
+        Short::Digits(n) => Command::SetFunction(holding(f, n)),
+        Short::NoDigits => Command::Malformed,
+    }
+}
+
+// `f` with the datum `n`, if it takes one.
+fn holding(f: Function, n: u8) -> Function
+    ensures { λ r. ⌜ r ≡ holding f n ⌝ }
 {
     match f {
-        Function::Rat => 3,
-        Function::Inc => 3,
-        Function::Dec => 3,
-        Function::Stp => 3,
-        Function::Jmp(_) => 3,
-        Function::Lop(_) => 3,
-        Function::Lps => 3,
-        Function::Lpe => 3,
-        Function::Pas(_) => 3,
-        Function::Tenths(_) => 3,
-        Function::If(_) => 2,
-        Function::Evn(_) => 3,
-        Function::Evr => 3,
-        Function::Bep => 3,
-        Function::Out(_) => 3,
-    }
-}
-
-// All of `s` as a datum.
-fn datum_of(s: &[u8]) -> Datum
-    ensures { λ r. ⌜ r ≡ datumOf (now (s .entry)) ⌝ }
-{
-    match s.len() {
-        0 => Datum::Absent,
-        1 => match decimal::read_one(s) {
-            Short::Digits(n) => Datum::Digit(n),
-            Short::NoDigits => Datum::NoDatum,
-        },
-        2 => match decimal::read_two(s) {
-            Short::Digits(n) => Datum::Pair(n),
-            Short::NoDigits => Datum::NoDatum,
-        },
-        _ => match decimal::read_tenths(s) {
-            Short::Digits(n) => Datum::Decimal(n),
-            Short::NoDigits => Datum::NoDatum,
-        },
-    }
-}
-
-// A function with the datum that was sent, if it is of the kind that the function takes.
-fn with_datum(f: Function, datum: Datum) -> Command
-    ensures { λ r. ⌜ r ≡ withDatum f datum ⌝ }
-{
-    match datum {
-        Datum::Absent => alone(f),
-        Datum::Digit(n) => with_digit(f, n),
-        Datum::Pair(n) => with_pair(f, n),
-        Datum::Decimal(n) => with_tenths(f, n),
-        Datum::NoDatum => Command::Malformed,
-    }
-}
-
-fn alone(f: Function) -> Command
-    ensures { λ r. ⌜ r ≡ withDatum f Datum.Absent ⌝ }
-{
-    match f {
-        Function::Rat => Command::SetFunction(Function::Rat),
-        Function::Inc => Command::SetFunction(Function::Inc),
-        Function::Dec => Command::SetFunction(Function::Dec),
-        Function::Stp => Command::SetFunction(Function::Stp),
-        Function::Lps => Command::SetFunction(Function::Lps),
-        Function::Lpe => Command::SetFunction(Function::Lpe),
-        Function::Evr => Command::SetFunction(Function::Evr),
-        Function::Bep => Command::SetFunction(Function::Bep),
-        _ => Command::Malformed,
-    }
-}
-
-// The output level has one digit and no more; otherwise one digit is as good as two.
-fn with_digit(f: Function, n: u8) -> Command
-    ensures { λ r. ⌜ r ≡ withDatum f (Datum.Digit n) ⌝ }
-{
-    match f {
-        Function::Out(_) => Command::SetFunction(Function::Out(n)),
-        Function::Jmp(_) => Command::SetFunction(Function::Jmp(n)),
-        Function::Lop(_) => Command::SetFunction(Function::Lop(n)),
-        Function::Pas(_) => Command::SetFunction(Function::Pas(n)),
-        Function::If(_) => Command::SetFunction(Function::If(n)),
-        Function::Evn(_) => Command::SetFunction(Function::Evn(n)),
-        _ => Command::Malformed,
-    }
-}
-
-fn with_pair(f: Function, n: u8) -> Command
-    ensures { λ r. ⌜ r ≡ withDatum f (Datum.Pair n) ⌝ }
-{
-    match f {
-        Function::Jmp(_) => Command::SetFunction(Function::Jmp(n)),
-        Function::Lop(_) => Command::SetFunction(Function::Lop(n)),
-        Function::Pas(_) => Command::SetFunction(Function::Pas(n)),
-        Function::If(_) => Command::SetFunction(Function::If(n)),
-        Function::Evn(_) => Command::SetFunction(Function::Evn(n)),
-        _ => Command::Malformed,
-    }
-}
-
-fn with_tenths(f: Function, n: u8) -> Command
-    ensures { λ r. ⌜ r ≡ withDatum f (Datum.Decimal n) ⌝ }
-{
-    match f {
-        Function::Pas(_) => Command::SetFunction(Function::Tenths(n)),
-        _ => Command::Malformed,
+        Function::Rat => Function::Rat,
+        Function::Inc => Function::Inc,
+        Function::Dec => Function::Dec,
+        Function::Stp => Function::Stp,
+        Function::Jmp(_) => Function::Jmp(n),
+        Function::Lop(_) => Function::Lop(n),
+        Function::Lps => Function::Lps,
+        Function::Lpe => Function::Lpe,
+        Function::Pas(_) => Function::Pas(n),
+        Function::Tenths(_) => Function::Tenths(n),
+        Function::If(_) => Function::If(n),
+        Function::Evn(_) => Function::Evn(n),
+        Function::Evr => Function::Evr,
+        Function::Bep => Function::Bep,
+        Function::Out(_) => Function::Out(n),
     }
 }

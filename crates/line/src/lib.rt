@@ -21,10 +21,8 @@ mod spelling;
 
 pub use addresses::address_of;
 pub use addresses::unaddressed;
-pub use arguments::Units;
 pub use arriving::Arrival;
 pub use arriving::arrival_of;
-pub use commands::Command;
 pub use commands::command_of;
 pub use lines::Arrived;
 pub use lines::Line;

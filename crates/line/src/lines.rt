@@ -1,14 +1,14 @@
 // The line under way: its first 40 characters, how many they are, and whether there were more.
 ghost use mathlib.Core.Path.{_≡_};
-ghost use Rattle.line.specs.Lines.{emptyLine, withCharacter, afterByte, allStanding, soundLine, addressIn, commandIn};
+ghost use Rattle.line.specs.Lines.{emptyLine, withCharacter, afterByte, allStanding, isSoundLine, addressIn, commandIn};
 ghost use Prim.Native.Nat.{min};
 use crate::addresses::address_of;
 use crate::addresses::unaddressed;
 use crate::arriving::Arrival;
 use crate::arriving::arrival_of;
 use crate::arriving::can_stand;
-use crate::commands::Command;
 use crate::commands::command_of;
+use words::Command;
 
 pub struct Line {
     pub bytes: [u8; 40],
@@ -70,8 +70,8 @@ impl Line {
     }
 
     // Whether calls from power-up can have made this line, as far as its characters go.
-    pub fn sound(self) -> bool
-        ensures { λ r. ⌜ r ≡ soundLine self ⌝ }
+    pub fn is_sound(self) -> bool
+        ensures { λ r. ⌜ r ≡ isSoundLine self ⌝ }
     {
         let len = self.len;
         if (len <= 40) & (!self.overlong | (40 <= len)) {

@@ -1,2 +1,4 @@
--- Laws that crates above cite.
-pub mod Bounds
+-- Laws of the open loops.
+pub mod Places
+pub mod Soundness
+pub mod Kept

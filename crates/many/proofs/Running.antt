@@ -4,30 +4,30 @@ use Prim.Native.Nat.{ℕ, zero, suc, _+_, _*_, _≤_}
 use mathlib.Core.Path.{_≡_, refl, sym, ap, _∙_, subst}
 use mathlib.Core.Bool.{Bool, true, false}
 use native.Mathlib.Omega.{arith}
-use Rattle.program.specs.declared.phases.Phase.{Phase}
+use Rattle.words.specs.declared.phases.Phase.{Phase}
 use Rattle.engine.specs.Sound.{Ready}
 use Rattle.engine.specs.Ticks.{tickOf}
 use Rattle.engine.specs.declared.state.Core.{Core}
-use Rattle.engine.specs.declared.state.Moved.{Moved}
+use Rattle.engine.specs.declared.ticks.Moved.{Moved}
 use Rattle.pump.specs.Calls.{tickCall}
-use Rattle.pump.specs.Holder.{phaseCount, phaseAt, withCore, soundPump}
+use Rattle.soundness.proofs.Cores as cores
+use Rattle.pump.specs.Holder.{phaseCount, phaseAt, isSoundPump}
 use Rattle.pump.specs.Reports.{refused, movedBy}
 use Rattle.pump.specs.declared.holder.Pump.{Pump}
 use Rattle.pump.specs.declared.reports.Refusal.the-variants.{Accepted, Unsound}
 use Rattle.pump.specs.declared.reports.Report.{Report}
-use Rattle.pump.proofs.Phases.{pump-ready}
-use Rattle.statement.proofs.Wholes.{sound-tick, tick-whole}
+use Rattle.pump.proofs.Kept.{withPumpCore, pump-core, table-here, sound-tick, tick-whole}
 use Rattle.many.specs.Ticking.{withTick, ticked}
 use Rattle.many.specs.declared.Ticked.{Ticked}
 
 -- i ticks from p gave this core and these sums; a tick gives at most 255 steps in a direction
 pub record Ran (p : Pump) (core : Core) (infused withdrawn i : ℕ) : Type 0 where
-  pub sound : soundPump (withCore p core) ≡ true
-  pub same : _≡_ {A = Ticked} (record { pump = withCore p core; infused = infused; withdrawn = withdrawn; sound = true }) (ticked i p)
+  pub sound : isSoundPump (withPumpCore p core) ≡ true
+  pub same : _≡_ {A = Ticked} (record { pump = withPumpCore p core; infused = infused; withdrawn = withdrawn; sound = true }) (ticked i p)
   pub infused-few : infused ≤ i * 255
   pub withdrawn-few : withdrawn ≤ i * 255
 
-pub ran-none : (p : Pump) → soundPump p ≡ true → Ran p (p .core) 0 0 0
+pub ran-none : (p : Pump) → isSoundPump p ≡ true → Ran p (p .device .core) 0 0 0
 unfolding ticked
 ran-none p sound =
     record {
@@ -40,22 +40,25 @@ ran-none p sound =
 module _ {count : ℕ} (p : Pump) (full : phaseCount p ≡ count) (few : count ≤ 99) (core : Core) (a b i : ℕ)
     (ran : Ran p core a b i) (here : Phase) (h : here ≡ phaseAt (p .phases) (core .run .place .current)) where
   pub ready : Ready count core here
-  ready = rw (h, sym full) (pump-ready (withCore p core) (ran .sound) (omega (arith, full)))
+  ready =
+      let q = withPumpCore p core in
+      rw (h, sym full)
+      (cores.ready (phaseCount q) (phaseAt (q .phases)) core (pump-core q (ran .sound)) (table-here q (omega (arith, full)) (ran .sound)))
 
-  called : (m : Moved) → m ≡ tickOf core here → tickCall (withCore p core) ≡ movedBy (withCore p core) m Accepted
+  called : (m : Moved) → m ≡ tickOf core here → tickCall (withPumpCore p core) ≡ movedBy (withPumpCore p core) m Accepted
   called m k =
-      sound-tick (withCore p core) (ran .sound)
-      ∙ ap (λ (x : Moved). movedBy (withCore p core) x Accepted) (sym (k ∙ ap (tickOf core) h))
+      sound-tick (withPumpCore p core) (ran .sound)
+      ∙ ap (λ (x : Moved). movedBy (withPumpCore p core) x Accepted) (sym (k ∙ ap (tickOf core) h))
 
   counted :
       (m : Moved)
       → m ≡ tickOf core here
       → _≡_ {A = Ticked}
-      (record { pump = withCore p (m .core); infused = a + m .infused; withdrawn = b + m .withdrawn; sound = true })
+      (record { pump = withPumpCore p (m .core); infused = a + m .infused; withdrawn = b + m .withdrawn; sound = true })
       (ticked (i + 1) p)
   unfolding ticked
   counted m k =
-      ap (withTick (record { pump = withCore p core; infused = a; withdrawn = b; sound = true })) (sym (called m k))
+      ap (withTick (record { pump = withPumpCore p core; infused = a; withdrawn = b; sound = true })) (sym (called m k))
       ∙ ap (λ (t : Ticked). withTick t (tickCall (t .pump))) (ran .same)
       ∙ ap (λ (n : ℕ). ticked n p) (one-more i)
     where
@@ -71,8 +74,8 @@ module _ {count : ℕ} (p : Pump) (full : phaseCount p ≡ count) (few : count �
   ran-more m k x y =
       record {
         sound =
-            subst (λ (r : Report). soundPump (r .pump) ≡ true) (called m k)
-            (tick-whole (withCore p core) (omega (arith, full)) (ran .sound));
+            subst (λ (r : Report). isSoundPump (r .pump) ≡ true) (called m k)
+            (tick-whole (withPumpCore p core) (omega (arith, full)) (ran .sound));
         same = counted m k;
         infused-few = omega (arith, ran .infused-few);
         withdrawn-few = omega (arith, ran .withdrawn-few);
@@ -83,17 +86,17 @@ pub ran-all :
     → Ran p core a b i
     → i ≤ n
     → n ≤ i
-    → _≡_ {A = Ticked} (record { pump = withCore p core; infused = a; withdrawn = b; sound = true }) (ticked n p)
+    → _≡_ {A = Ticked} (record { pump = withPumpCore p core; infused = a; withdrawn = b; sound = true }) (ticked n p)
 ran-all p core a b i n ran h k = let e : i ≡ n = omega arith in ran .same ∙ ap (λ (m : ℕ). ticked m p) e
 
 -- ---- a state that is not sound: every tick is refused
-still-tick : (p : Pump) → soundPump p ≡ false → tickCall p ≡ refused p Unsound
+still-tick : (p : Pump) → isSoundPump p ≡ false → tickCall p ≡ refused p Unsound
 unfolding tickCall
 still-tick p e = rw e refl
 
 pub ran-still :
     (p : Pump) (n : ℕ)
-    → soundPump p ≡ false
+    → isSoundPump p ≡ false
     → _≡_ {A = Ticked} (record { pump = p; infused = 0; withdrawn = 0; sound = false }) (ticked n p)
 unfolding ticked
 ran-still p zero e = ap (λ (t : Bool). record { pump = p; infused = 0; withdrawn = 0; sound = t }) (sym e)

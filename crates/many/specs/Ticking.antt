@@ -1,7 +1,7 @@
 -- A number of ticks, one after the other, and the steps that they give.   (01, Marked figures: the bench program; Calls)
 use Prim.Native.Nat.{ℕ, zero, suc, _+_}
 use Rattle.pump.specs.Calls.{tickCall}
-use Rattle.pump.specs.Holder.{soundPump}
+use Rattle.pump.specs.Holder.{isSoundPump}
 use Rattle.pump.specs.declared.holder.Pump.{Pump}
 use Rattle.pump.specs.declared.reports.Report.{Report}
 use Rattle.many.specs.declared.Ticked.{Ticked}
@@ -12,5 +12,5 @@ withTick t r = record { pump = r .pump; infused = t .infused + r .infused; withd
 
 -- whether they were taken is told beside: each is refused with 4 where the state is not sound
 unfoldable pub ticked : ℕ → Pump → Ticked
-ticked zero p = record { pump = p; infused = 0; withdrawn = 0; sound = soundPump p }
+ticked zero p = record { pump = p; infused = 0; withdrawn = 0; sound = isSoundPump p }
 ticked (suc n) p = withTick (ticked n p) (tickCall (ticked n p .pump))

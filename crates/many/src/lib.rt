@@ -2,7 +2,7 @@
 // the other. The state is tested once. A tick keeps a sound state sound, so that behind the first test only the core is carried.
 ghost use mathlib.Core.Path.{_≡_};
 ghost use mathlib.Core.Bool.{true};
-ghost use Rattle.pump.specs.Holder.{soundPump};
+ghost use Rattle.pump.specs.Holder.{isSoundPump};
 ghost use Rattle.many.specs.Ticking.{ticked};
 use pump::Pump;
 
@@ -18,7 +18,7 @@ pub struct Ticked {
 pub fn ticks(pump: Pump, n: u32) -> Ticked
     ensures { λ r. ⌜ r ≡ ticked n pump ⌝ }
 {
-    if pump.sound() {
+    if pump.is_sound() {
         return run(pump, n);
     }
     Ticked {
@@ -31,10 +31,11 @@ pub fn ticks(pump: Pump, n: u32) -> Ticked
 
 // A tick gives at most 255 steps in a direction, and n is below 2^32, so that a sum is below 2^64.
 fn run(pump: Pump, n: u32) -> Ticked
-    requires { ⌜ soundPump pump ≡ true ⌝ }
+    requires { ⌜ isSoundPump pump ≡ true ⌝ }
     ensures { λ r. ⌜ r ≡ ticked n pump ⌝ }
 {
-    let mut core = pump.core;
+    let device = pump.device;
+    let mut core = device.core;
     let mut infused: u64 = 0;
     let mut withdrawn: u64 = 0;
     let mut i: u32 = 0;
@@ -47,7 +48,7 @@ fn run(pump: Pump, n: u32) -> Ticked
         i += 1;
     }
     Ticked {
-        pump: pump.with_core(core),
+        pump: pump.with_device(device.with_core(core)),
         infused: infused,
         withdrawn: withdrawn,
         sound: true,

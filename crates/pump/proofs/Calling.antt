@@ -1,7 +1,7 @@
 -- The calls by what was tested and what was called: the tick, the pin and the byte, and what each refuses.
 -- Assumes nothing.
-use Prim.Native.Nat.{ℕ, _≤_, _<_}
-use mathlib.Core.Path.{_≡_, sym, ap, _∙_}
+use Prim.Native.Nat.{ℕ, _+_, _≤_, _<_}
+use mathlib.Core.Path.{_≡_, refl, sym, ap, _∙_}
 use mathlib.Core.Logic.{_⊎_, inl, inr}
 use mathlib.Core.Bool.{Bool, true, false}
 use mathlib.Core.List.{List}
@@ -9,69 +9,87 @@ use native.Mathlib.Omega.{arith}
 use lib.Dec.{eqb}
 use lib.ListN.{length}
 use borrow.Author.Tests.{lt-ltb, le-ltb, ne-eqb}
-use Rattle.answer.specs.Answers.{room}
-use Rattle.engine.specs.Edges.{pinTwo, pinFour, pinSix}
 use Rattle.base.specs.If.{if_then_else_}
-use Rattle.engine.specs.Runs.{silent}
+use Rattle.answer.specs.Answers.{room, lengthIn, bufferAfter}
+use Rattle.words.specs.declared.answers.Said.{Said}
+use Rattle.words.specs.declared.phases.Phase.{Phase}
+use Rattle.engine.proofs.Parts.{core-clauses, run-clauses}
+use Rattle.engine.specs.Runs.{isOperating}
 use Rattle.engine.specs.Sound.{Ready}
-use Rattle.engine.specs.Ticks.{tickOf}
+use Rattle.engine.specs.Statuses.{inHand}
+use Rattle.engine.specs.Ticks.{tickOf, silent}
 use Rattle.engine.specs.declared.state.Core.{Core}
-use Rattle.engine.specs.declared.state.Moved.{Moved}
-use Rattle.engine.proofs.Readiness.{ranges-sound, chosen-le, ready-current}
+use Rattle.engine.specs.declared.ticks.Moved.{Moved}
 use Rattle.line.specs.Lines.{afterByte}
 use Rattle.line.specs.declared.lines.Arrived.{Arrived}
+use Rattle.line.specs.declared.lines.Line.{Line}
 use Rattle.pump.specs.Calls as calls
-use Rattle.pump.specs.Calls.{tickCall, edged, levelled, pinCall, received, receivedBuffer, byteReport, byteBuffer}
-use Rattle.pump.specs.Holder.{phaseCount, phaseAt, withCore, withLine, soundPump, checkedOf}
-use Rattle.pump.specs.Lines.{Handy, afterLine, reportOf, bufferOf}
-use Rattle.pump.specs.Reports.{refused, reported, unlessSound, movedBy}
+use Rattle.pump.specs.Calls.{Handy, tickCall, levelled, pinCall, afterLine, answered, answeredBuffer, received, receivedBuffer}
+use Rattle.pump.specs.Calls.{byteReport, byteBuffer}
+use Rattle.pump.specs.Device.{withLine, edge, hearLine, said}
+use Rattle.pump.specs.Holder.{phaseCount, phaseAt, hereOf, withDevice, edited, isSoundPump, checked}
+use Rattle.pump.specs.Reports.{refused, reported, unless, movedBy}
+use Rattle.pump.specs.declared.calls.Listened.{Listened}
 use Rattle.pump.specs.declared.checks.Checked.{Checked}
+use Rattle.pump.specs.declared.device.Device.{Device}
+use Rattle.pump.specs.declared.device.Heard.{Heard}
+use Rattle.pump.specs.declared.device.Told.{Told}
 use Rattle.pump.specs.declared.holder.Pump.{Pump}
 use Rattle.pump.specs.declared.reports.Refusal.{Refusal}
 use Rattle.pump.specs.declared.reports.Refusal.the-variants.{ShortBuffer, NoPin, NoLevel, Unsound}
 use Rattle.pump.specs.declared.reports.Report.{Report}
-use Rattle.pump.proofs.Phases.{pump-core, pump-ready}
+use Rattle.pump.proofs.Kept.{pump-core, table-here}
 
 -- ---- what a sound pump lends to the rules
-pub handy-of : (p : Pump) → phaseCount p ≤ 99 → soundPump p ≡ true → Handy p
-handy-of p few e =
-    record {
-      current-few = ready-current (phaseCount p) (p .core) _ (pump-ready p e few);
-      chosen-few =
-          let h = chosen-le (phaseCount p) (p .core) (ranges-sound (phaseCount p) (p .core) _ (pump-core p e)) in
-          omega arith;
-    }
+module _ (p : Pump) (few : phaseCount p ≤ 99) (e : isSoundPump p ≡ true) where
+  ready : Ready (phaseCount p) (p .device .core) (hereOf p)
+  ready = record { few = few; core = pump-core p e; phase = table-here p few e .every (p .device .core .run .place .current) }
+
+  handy : Handy p
+  handy =
+      let c = core-clauses (phaseCount p) (p .device .core) (hereOf p) (pump-core p e) in
+      let r = run-clauses (phaseCount p) (p .device .core .run) (c .under-way) in
+      record { current-few = omega (arith, few, r .most); chosen-few = omega (arith, few, c .chosen-most) }
+
+-- another line changes nothing of that
+pub handy-line : (p q : Pump) (v : Device) (line : Line) → Handy p → v ≡ withLine (p .device) line → q ≡ withDevice p v → Handy q
+handy-line p q v line h k e = rw (e, k) (record { current-few = h .current-few; chosen-few = h .chosen-few })
+
+-- the phase in hand
+hand-few : (p : Pump) → Handy p → (b : Bool) → isOperating (p .device .core .run) ≡ b → inHand (p .device .core) ≤ 100
+hand-few p h true k = rw k (h .current-few)
+hand-few p h false k = rw k (h .chosen-few)
+
+pub few-in-hand : (p : Pump) (n : ℕ) → Handy p → n ≡ inHand (p .device .core) → n ≤ 100
+few-in-hand p n h e = rw e (hand-few p h (isOperating (p .device .core .run)) refl)
 
 -- ---- the tick: of a sound pump by the rules, of any other none
 tick-by :
     (p : Pump) (sound : Bool)
-    → sound ≡ soundPump p
-    → movedBy p
-    (if sound then tickOf (p .core) (phaseAt (p .phases) (p .core .run .place .current)) else silent (p .core))
-    (unlessSound sound)
-    ≡ tickCall p
+    → sound ≡ isSoundPump p
+    → movedBy p (if sound then tickOf (p .device .core) (hereOf p) else silent (p .device .core)) (unless sound) ≡ tickCall p
 unfolding tickCall
 tick-by p true s = sym (simp (sym s))
 tick-by p false s = sym (simp (sym s))
 
-module _ (p : Pump) (k : Checked) (c : k ≡ checkedOf p) where
-  pub ready-checked : {count : ℕ} → phaseCount p ≡ count → count ≤ 99 → k .sound ≡ true → Ready count (p .core) (k .here)
+module _ (p : Pump) (k : Checked) (c : k ≡ checked p) where
+  pub ready-checked : {count : ℕ} → phaseCount p ≡ count → count ≤ 99 → k .sound ≡ true → Ready count (p .device .core) (k .here)
   ready-checked full few e =
-      rw (ap (λ x. x .here) c, sym full) (pump-ready p (sym (ap (λ x. x .sound) c) ∙ e) (omega (arith, full)))
+      rw (ap (λ x. x .here) c, sym full) (ready p (omega (arith, full)) (sym (ap (λ x. x .sound) c) ∙ e))
 
   pub tick-checked :
       (m : Moved) (refusal : Refusal) (r : Report)
-      → m ≡ (if k .sound then tickOf (p .core) (k .here) else silent (p .core))
-      → refusal ≡ unlessSound (k .sound)
+      → m ≡ (if k .sound then tickOf (p .device .core) (k .here) else silent (p .device .core))
+      → refusal ≡ unless (k .sound)
       → r ≡ movedBy p m refusal
       → r ≡ tickCall p
   tick-checked m refusal r a b q =
       q ∙ rw (a, b, ap (λ x. x .here) c) (tick-by p (k .sound) (ap (λ x. x .sound) c))
 
-module _ (p : Pump) (sound : Bool) (s : sound ≡ soundPump p) where
+module _ (p : Pump) (sound : Bool) (s : sound ≡ isSoundPump p) where
   module _ (e : sound ≡ true) where
     pub handy-now : phaseCount p ≤ 99 → Handy p
-    handy-now few = handy-of p few (sym s ∙ e)
+    handy-now few = handy p few (sym s ∙ e)
 
     -- ---- the pin
     module _ (pin level : ℕ) (r : Report) where
@@ -130,51 +148,76 @@ module _ (p : Pump) (pin level : ℕ) (r : Report) where
   unfolding levelled
   no-level h q = q ∙ sym (simp (lt-ltb 1 level h))
 
-  pub some-level : (after : Pump) → level ≤ 1 → after ≡ edged p pin (eqb level 1) → r ≡ reported after 0 → r ≡ levelled p pin level
+  pub some-level :
+      (v : Device) (after : Pump)
+      → level ≤ 1
+      → v ≡ edge (p .device) pin (eqb level 1)
+      → after ≡ withDevice p v
+      → r ≡ reported after 0
+      → r ≡ levelled p pin level
   unfolding levelled
-  some-level after h k q = q ∙ ap (λ (x : Pump). reported x 0) k ∙ sym (simp (le-ltb 1 level h))
+  some-level v after h k a q =
+      q ∙ ap (λ (x : Pump). reported x 0) (a ∙ ap (withDevice p) k) ∙ sym (simp (le-ltb 1 level h))
 
-module _ (p : Pump) (pin : ℕ) (high : Bool) (core : Core) (r : Pump) (q : r ≡ withCore p core) where
-  pub edge-2 : pin ≡ 2 → core ≡ pinTwo (p .core) high → r ≡ edged p pin high
-  unfolding edged
-  edge-2 h k = q ∙ ap (withCore p) k ∙ sym (simp h)
+-- ---- a whole line
+pub listened-as :
+    {count : ℕ} (p : Pump) (n : ℕ) (here next : Phase) (h : Heard) (held after : Pump)
+    → phaseCount p ≡ count
+    → n ≡ inHand (p .device .core)
+    → here ≡ phaseAt (p .phases) n
+    → next ≡ phaseAt (p .phases) (n + 1)
+    → h ≡ hearLine (p .device) here (next .function) count
+    → held ≡ withDevice p (h .device)
+    → after ≡ edited held n (h .edit)
+    → record { pump = after; told = h .told } ≡ afterLine p
+unfolding afterLine
+listened-as p n here next h held after full a b d g k q = rw (q, k, g, b, d, a, full)
 
-  pub edge-4 : pin ≡ 4 → core ≡ pinFour (p .core) high → r ≡ edged p pin high
-  unfolding edged
-  edge-4 h k = q ∙ ap (withCore p) k ∙ sym (simp h)
+-- ---- an answer has the status after the command
+module _ (p : Pump) (t : Told) (buffer : List ℕ) (here : Phase) (x : Said)
+    (h : here ≡ hereOf p) (k : x ≡ said (p .device) t (here .direction)) where
+  said-is : x ≡ calls.saidBy p t
+  said-is = k ∙ ap (λ (y : Phase). said (p .device) t (y .direction)) h
 
-  pub edge-6 : (pin ≡ 2 → ⊥) → (pin ≡ 4 → ⊥) → core ≡ pinSix (p .core) high → r ≡ edged p pin high
-  unfolding edged
-  edge-6 a b k = q ∙ ap (withCore p) k ∙ sym (simp (ne-eqb pin 2 a, ne-eqb pin 4 b))
+  pub answered-report : (n : ℕ) (r : Report) → n ≡ lengthIn 0 x buffer → r ≡ reported p n → r ≡ answered p t buffer
+  answered-report n r q e = e ∙ ap (reported p) (q ∙ ap (λ (y : Said). lengthIn 0 y buffer) said-is)
 
-pub ruleset edges = (edge-2, edge-4, edge-6)
+  pub answered-written : (after : List ℕ) → after ≡ bufferAfter 0 x buffer → after ≡ answeredBuffer p t buffer
+  answered-written after q = q ∙ ap (λ (y : Said). bufferAfter 0 y buffer) said-is
 
 -- ---- a byte that was received
-module _ (p : Pump) (b : ℕ) (buffer : List ℕ) (a : Arrived) (held : Pump)
-    (k : a ≡ afterByte (p .line) b) (h : held ≡ withLine p (a .line)) where
+module _ (p : Pump) (b : ℕ) (buffer : List ℕ) (a : Arrived) (v : Device) (held : Pump)
+    (k : a ≡ afterByte (p .device .line) b) (g : v ≡ withLine (p .device) (a .line)) (h : held ≡ withDevice p v) where
+  held-is : held ≡ calls.held p a
+  held-is = h ∙ ap (withDevice p) g
+
   pub line-goes-on : (r : Report) → a .ended ≡ false → r ≡ reported held 0 → r ≡ received p b buffer
   unfolding received
   line-goes-on r e q =
-      q ∙ ap (λ (x : Pump). reported x 0) h ∙ sym (simp e) ∙ ap (λ (x : Arrived). calls.arrivedReport p x buffer) k
-
-  pub line-ends : (r : Report) → a .ended ≡ true → r ≡ reportOf (afterLine held) buffer → r ≡ received p b buffer
-  unfolding received
-  line-ends r e q =
-      q
-      ∙ ap (λ (x : Pump). reportOf (afterLine x) buffer) h
-      ∙ sym (simp e)
-      ∙ ap (λ (x : Arrived). calls.arrivedReport p x buffer) k
+      q ∙ ap (λ (x : Pump). reported x 0) held-is ∙ sym (simp e) ∙ ap (λ (x : Arrived). calls.arrivedReport p x buffer) k
 
   pub buffer-stays : a .ended ≡ false → buffer ≡ receivedBuffer p b buffer
   unfolding receivedBuffer
   buffer-stays e = sym (simp e) ∙ ap (λ (x : Arrived). calls.arrivedBuffer p x buffer) k
 
-  pub buffer-written : (after : List ℕ) → a .ended ≡ true → after ≡ bufferOf (afterLine held) buffer → after ≡ receivedBuffer p b buffer
-  unfolding receivedBuffer
-  buffer-written after e q =
-      q
-      ∙ ap (λ (x : Pump). bufferOf (afterLine x) buffer) h
-      ∙ sym (simp e)
-      ∙ ap (λ (x : Arrived). calls.arrivedBuffer p x buffer) k
+  module _ (l : Listened) (m : l ≡ afterLine held) (e : a .ended ≡ true) where
+    listened-is : l ≡ afterLine (calls.held p a)
+    listened-is = m ∙ ap afterLine held-is
+
+    pub line-ends : (r : Report) → r ≡ answered (l .pump) (l .told) buffer → r ≡ received p b buffer
+    unfolding received
+    line-ends r q =
+        q
+        ∙ ap (λ (x : Listened). calls.heardReport x buffer) listened-is
+        ∙ sym (simp e)
+        ∙ ap (λ (x : Arrived). calls.arrivedReport p x buffer) k
+
+    pub buffer-written : (after : List ℕ) → after ≡ answeredBuffer (l .pump) (l .told) buffer → after ≡ receivedBuffer p b buffer
+    unfolding receivedBuffer
+    buffer-written after q =
+        q
+        ∙ ap (λ (x : Listened). calls.heardBuffer x buffer) listened-is
+        ∙ sym (simp e)
+        ∙ ap (λ (x : Arrived). calls.arrivedBuffer p x buffer) k
 
 pub ruleset arrivals = (line-goes-on, line-ends, buffer-stays, buffer-written)

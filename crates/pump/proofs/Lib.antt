@@ -1,5 +1,7 @@
--- Laws of the pump, and the theorems on its calls.
-pub mod Phases
-pub mod Holding
-pub mod Calling
-pub mod Saying
+-- Laws of the pump: those that crates above cite, and those of its own proofs.
+pub mod Kept
+pub mod Renewing
+mod Phases
+mod Holding
+mod Hearing
+mod Calling

@@ -1,20 +1,19 @@
--- The pump's state: the phase of a number, power-up, and when the whole is sound.   (01, Calls; Commands, Power-up; Ticks and phases)
+-- The phases: the phase of a number, power-up, the edit that a command asks for, and when the whole is sound.   (01, Calls; Commands,
+-- Power-up; Ticks and phases)
 use Prim.Native.Nat.{ℕ, _-_}
 use mathlib.Core.Bool.{Bool, true, _&&_}
 use mathlib.Core.List.{List, [], _∷_}
 use lib.ListN.{length, getD, set, replicate}
 use Rattle.base.specs.If.{if_then_else_}
-use Rattle.engine.specs.Control.{powerUpCore}
-use Rattle.engine.specs.Queries as queries
-use Rattle.engine.specs.Sound.{soundCore}
-use Rattle.engine.specs.declared.state.Core.{Core}
-use Rattle.line.specs.Lines.{emptyLine, soundLine}
-use Rattle.line.specs.declared.lines.Line.{Line}
-use Rattle.program.specs.Functions.{isPhase}
-use Rattle.program.specs.Phases.{idle, powerUp, soundPhase}
-use Rattle.program.specs.declared.functions.Function.the-variants as f
-use Rattle.program.specs.declared.phases.Phase.{Phase}
+use Rattle.words.specs.Functions.{isPhase}
+use Rattle.words.specs.Phases.{idle, powerUp, isSoundPhase}
+use Rattle.words.specs.declared.functions.Function.the-variants as f
+use Rattle.words.specs.declared.phases.Phase.{Phase}
+use Rattle.command.specs.declared.obeying.Edit.{Edit}
+use Rattle.command.specs.declared.obeying.Edit.the-variants.{Keep, Write, Renew}
+use Rattle.pump.specs.Device.{powerUpDevice, isSoundDevice}
 use Rattle.pump.specs.declared.checks.Checked.{Checked}
+use Rattle.pump.specs.declared.device.Device.{Device}
 use Rattle.pump.specs.declared.holder.Pump.{Pump}
 
 -- how many phases a pump has: no rule names a number, each asks the state
@@ -33,35 +32,41 @@ stopPhase = idle f.Stp
 unfoldable pub phaseAt : List Phase → ℕ → Phase
 phaseAt ps n = getD (stopPhase ∷ ps) n stopPhase
 
--- ---- one part replaced
-abbrev pub withCore : Pump → Core → Pump
-withCore p x = record { phases = p .phases; core = x; line = p .line }
+-- the current phase
+abbrev pub hereOf : Pump → Phase
+hereOf p = phaseAt (p .phases) (p .device .core .run .place .current)
 
-abbrev pub withLine : Pump → Line → Pump
-withLine p x = record { phases = p .phases; core = p .core; line = x }
+-- ---- one part replaced
+abbrev pub withDevice : Pump → Device → Pump
+withDevice p x = record { phases = p .phases; device = x }
+
+abbrev pub withPhases : Pump → List Phase → Pump
+withPhases p x = record { phases = x; device = p .device }
 
 unfoldable pub withPhase : Pump → ℕ → Phase → Pump
-withPhase p n x =
-    if isPhase (phaseCount p) n then record { phases = set (p .phases) (n - 1) x; core = p .core; line = p .line } else p
+withPhase p n x = if isPhase (phaseCount p) n then withPhases p (set (p .phases) (n - 1) x) else p
 
--- ---- power-up of a pump of n phases: phase 1 RAT, others STP, and the line empty
-unfoldable pub freshPump : ℕ → Pump
-freshPump n = record { phases = set (replicate n (powerUp 2)) 0 (powerUp 1); core = powerUpCore; line = emptyLine }
+-- ---- power-up of a pump of n phases: phase 1 RAT, others STP
+unfoldable pub freshPhases : ℕ → List Phase
+freshPhases n = set (replicate n (powerUp 2)) 0 (powerUp 1)
 
--- ---- the number of the phase that a command concerns
-unfoldable pub inHand : Pump → ℕ
-inHand p = queries.inHand (p .core)
+abbrev pub freshPump : ℕ → Pump
+freshPump n = record { phases = freshPhases n; device = powerUpDevice }
 
--- ---- sound: every phase in a pump of n of them, the core with its current phase, the line
-unfoldable pub soundPhases : ℕ → List Phase → Bool
-soundPhases n [] = true
-soundPhases n (p ∷ ps) = soundPhase n p && soundPhases n ps
+-- ---- what a command asks for: nothing; another phase n; all phases as at power-up
+abbrev pub edited : Pump → ℕ → Edit → Pump
+edited p n Keep = p
+edited p n (Write x) = withPhase p n x
+edited p n Renew = withPhases p (freshPhases (phaseCount p))
 
-unfoldable pub soundPump : Pump → Bool
-soundPump p =
-    soundPhases (phaseCount p) (p .phases)
-    && (soundCore (phaseCount p) (p .core) (phaseAt (p .phases) (p .core .run .place .current)) && soundLine (p .line))
+-- ---- sound: every phase in a pump of n of them, and the device with its current phase
+unfoldable pub isSoundPhases : ℕ → List Phase → Bool
+isSoundPhases n [] = true
+isSoundPhases n (p ∷ ps) = isSoundPhase n p && isSoundPhases n ps
+
+unfoldable pub isSoundPump : Pump → Bool
+isSoundPump p = isSoundPhases (phaseCount p) (p .phases) && isSoundDevice (phaseCount p) (p .device) (hereOf p)
 
 -- with the current phase
-abbrev pub checkedOf : Pump → Checked
-checkedOf p = record { here = phaseAt (p .phases) (p .core .run .place .current); sound = soundPump p }
+abbrev pub checked : Pump → Checked
+checked p = record { here = hereOf p; sound = isSoundPump p }

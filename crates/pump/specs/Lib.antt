@@ -1,5 +1,5 @@
--- The pump: its state, what a whole line does, and the calls.
+-- The pump: the device, the holder of the phases, and the calls.
+pub mod Device
 pub mod Holder
 pub mod Reports
-pub mod Lines
 pub mod Calls

@@ -1,8 +1,8 @@
 // Whether a state is sound, and the phase that a tick concerns.
 ghost use mathlib.Core.Path.{_≡_};
-ghost use Rattle.pump.specs.Holder.{soundPump, checkedOf};
+ghost use Rattle.pump.specs.Holder.{isSoundPump, checked};
 use crate::holder::Pump;
-use program::Phase;
+use words::Phase;
 
 // The current phase of a pump, and whether the pump is sound.
 pub struct Checked {
@@ -12,8 +12,8 @@ pub struct Checked {
 
 impl Pump {
     // Document 01's sentence on a sound state, whole.
-    pub fn sound(self) -> bool
-        ensures { λ r. ⌜ r ≡ soundPump self ⌝ }
+    pub fn is_sound(self) -> bool
+        ensures { λ r. ⌜ r ≡ isSoundPump self ⌝ }
     {
         let checked = self.checked();
         checked.sound
@@ -22,12 +22,11 @@ impl Pump {
     // The test, and the current phase. Both look into one copy of the phases, the only one that a tick makes: a call of `phase_at`
     // here would make another.
     pub fn checked(self) -> Checked
-        ensures { λ r. ⌜ r ≡ checkedOf self ⌝ }
+        ensures { λ r. ⌜ r ≡ checked self ⌝ }
     {
         let phases = self.phases;
-        let core = self.core;
-        let line = self.line;
-        let n = core.run.place.current;
+        let device = self.device;
+        let n = device.core.run.place.current;
         let mut here = Phase::power_up(0);
         if 1 <= n {
             if n <= Pump::PHASES {
@@ -36,9 +35,9 @@ impl Pump {
             }
         }
         let mut i: usize = 0;
-        while i < 41 {
+        while i < Pump::PHASES as usize {
             let p = phases[i];
-            if p.sound(Pump::PHASES) {
+            if p.is_sound(Pump::PHASES) {
                 i += 1;
             } else {
                 return Checked {
@@ -49,7 +48,7 @@ impl Pump {
         }
         Checked {
             here: here,
-            sound: core.sound(here, Pump::PHASES) & line.sound(),
+            sound: device.is_sound(here, Pump::PHASES),
         }
     }
 }

@@ -1,14 +1,13 @@
-// The pump's state, its constants, and the phase of a number.
+// The phases: the pump's state, its constants, the phase of a number, and the edit that a command asks for.
 ghost use mathlib.Core.Path.{_≡_};
-ghost use Rattle.pump.specs.Holder.{modelPhases, freshPump, phaseAt, withPhase, withCore, withLine, inHand};
-use engine::Core;
-use line::Line;
-use program::Phase;
+ghost use Rattle.pump.specs.Holder.{modelPhases, phaseCount, freshPump, freshPhases, phaseAt, withPhase, withPhases, withDevice, edited};
+use crate::device::Device;
+use command::Edit;
+use words::Phase;
 
 pub struct Pump {
     pub phases: [Phase; 41],
-    pub core: Core,
-    pub line: Line,
+    pub device: Device,
 }
 
 impl Pump {
@@ -29,8 +28,7 @@ impl Pump {
         phases[0] = first;
         Pump {
             phases: phases,
-            core: Core::power_up(),
-            line: Line::empty(),
+            device: Device::power_up(),
         }
     }
 
@@ -38,53 +36,53 @@ impl Pump {
     pub fn phase_at(self, n: u8) -> Phase
         ensures { λ r. ⌜ r ≡ phaseAt (self .phases) n ⌝ }
     {
-        if n == 0 {
-            return Phase::power_up(0);
+        if (1 <= n) & (n <= Pump::PHASES) {
+            let i = (n - 1) as usize;
+            return self.phases[i];
         }
-        let i = (n - 1) as usize;
-        if 41 <= i {
-            return Phase::power_up(0);
-        }
-        self.phases[i]
+        Phase::power_up(0)
     }
 
     // Another phase of that number; past the last there is none to alter.
     pub fn with_phase(mut self, n: u8, phase: Phase) -> Pump
         ensures { λ r. ⌜ r ≡ withPhase self n phase ⌝ }
     {
-        if n == 0 {
-            return self;
+        if (1 <= n) & (n <= Pump::PHASES) {
+            let i = (n - 1) as usize;
+            self.phases[i] = phase;
         }
-        let i = (n - 1) as usize;
-        if 41 <= i {
-            return self;
-        }
-        self.phases[i] = phase;
         self
     }
 
-    pub fn with_core(mut self, core: Core) -> Pump
-        ensures { λ r. ⌜ r ≡ withCore self core ⌝ }
+    // The phases as a command asks for them; `n` is the number of the phase that it concerned.
+    pub fn edited(self, n: u8, edit: Edit) -> Pump
+        ensures { λ r. ⌜ r ≡ edited self n edit ⌝ }
     {
-        self.core = core;
-        self
-    }
-
-    pub fn with_line(mut self, line: Line) -> Pump
-        ensures { λ r. ⌜ r ≡ withLine self line ⌝ }
-    {
-        self.line = line;
-        self
-    }
-
-    // The number of the phase that a command concerns: the running one while operating, else the chosen one.
-    pub fn in_hand(self) -> u8
-        ensures { λ r. ⌜ r ≡ inHand self ⌝ }
-    {
-        let core = self.core;
-        if core.operating() {
-            return core.run.place.current;
+        match edit {
+            Edit::Keep => self,
+            Edit::Write(phase) => self.with_phase(n, phase),
+            Edit::Renew => self.renew(),
         }
-        core.chosen
+    }
+
+    // All phases as at power-up, one after the other: a table that the compiler knew whole it would move field by field.
+    fn renew(mut self) -> Pump
+        ensures { λ r. ⌜ r ≡ withPhases self (freshPhases (phaseCount self)) ⌝ }
+    {
+        let mut n: u8 = 0;
+        while n < Pump::PHASES {
+            let i = n as usize;
+            n += 1;
+            let phase = Phase::power_up(n);
+            self.phases[i] = phase;
+        }
+        self
+    }
+
+    pub fn with_device(mut self, device: Device) -> Pump
+        ensures { λ r. ⌜ r ≡ withDevice self device ⌝ }
+    {
+        self.device = device;
+        self
     }
 }

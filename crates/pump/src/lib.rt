@@ -1,19 +1,22 @@
-// The pump (document 01, Calls; Line and answer): the holder of 41 phases, the line and the core, and the four calls: a fresh state,
-// a byte, a pin level and a tick. No call asks anything of its caller: whatever is handed in has its outcome, and what a call refuses
-// comes back as it was.
+// The pump (document 01, Calls; Line and answer): the device, which is all of the state but its phases; the holder of 41 phases; and the
+// four calls: a fresh state, a byte, a pin level and a tick. No call asks anything of its caller: whatever is handed in has its outcome,
+// and what a call refuses comes back as it was. The holder looks phases up, calls the device with them, and stores what comes back.
 //
-//   holder    the state, its constants, and the phase of a number
+//   device    the core and the line; what a byte, a whole line, an edge do to them
+//   holder    the phases: the state, its constants, the phase of a number, and the edit that a command asks for
 //   checks    when the whole is sound
 //   reports   what every call hands back, and the refusals
-//   lines     what a whole line does
 //   calls     the byte, the pin and the tick
 mod calls;
 mod checks;
+mod device;
 mod holder;
-mod lines;
 mod reports;
 
 pub use checks::Checked;
+pub use device::Device;
+pub use device::Heard;
+pub use device::Told;
 pub use holder::Pump;
 pub use reports::Refusal;
 pub use reports::Report;

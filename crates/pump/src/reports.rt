@@ -1,6 +1,6 @@
 // What every call hands back, and the refusals.
 ghost use mathlib.Core.Path.{_≡_};
-ghost use Rattle.pump.specs.Reports.{numberOf, refused, reported, unlessSound, movedBy};
+ghost use Rattle.pump.specs.Reports.{refusalNumber, refused, reported, unless, movedBy};
 use crate::holder::Pump;
 use engine::Moved;
 
@@ -15,7 +15,7 @@ pub enum Refusal {
 impl Refusal {
     // That of a call that asks for a sound state and for nothing else.
     pub fn unless(sound: bool) -> Refusal
-        ensures { λ r. ⌜ r ≡ unlessSound sound ⌝ }
+        ensures { λ r. ⌜ r ≡ unless sound ⌝ }
     {
         if sound {
             return Refusal::Accepted;
@@ -25,7 +25,7 @@ impl Refusal {
 
     // The number in document 01's table; 0 where nothing was refused.
     pub fn number(self) -> u8
-        ensures { λ r. ⌜ r ≡ numberOf self ⌝ }
+        ensures { λ r. ⌜ r ≡ refusalNumber self ⌝ }
     {
         match self {
             Refusal::Accepted => 0,
@@ -53,7 +53,7 @@ impl Pump {
     pub fn refused(self, refusal: Refusal) -> Report
         ensures { λ r. ⌜ r ≡ refused self refusal ⌝ }
     {
-        let output = self.core.pins.output;
+        let output = self.device.core.output;
         Report {
             pump: self,
             length: 0,
@@ -69,7 +69,7 @@ impl Pump {
     pub fn reported(self, length: usize) -> Report
         ensures { λ r. ⌜ r ≡ reported self length ⌝ }
     {
-        let output = self.core.pins.output;
+        let output = self.device.core.output;
         Report {
             pump: self,
             length: length,
@@ -86,9 +86,10 @@ impl Pump {
         ensures { λ r. ⌜ r ≡ movedBy self moved refusal ⌝ }
     {
         let core = moved.core;
-        let output = core.pins.output;
+        let output = core.output;
+        let device = self.device;
         Report {
-            pump: self.with_core(core),
+            pump: self.with_device(device.with_core(core)),
             length: 0,
             infused: moved.infused as u32,
             withdrawn: moved.withdrawn as u32,

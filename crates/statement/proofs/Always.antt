@@ -1,105 +1,181 @@
 -- From power-up on, whatever calls come, for each number of phases that a model may have:
 --     phases-after    there are as many phases as there were, whatever their number
---     whole-after     the state is whole, so it is sound
---     refused-after   the next call is refused as the table says of a sound state
---     never-unsound   and never because it is not sound
+--     whole-after     the state is whole; sound-after: so it is sound
+--     never-unsound   and no call is refused with 4, because it is not sound
 -- Assumes nothing.
-use Prim.Native.Nat.{ℕ}
+use Prim.Native.Nat.{ℕ, _-_, _≤_}
 use mathlib.Core.Path.{_≡_, refl, sym, ap, _∙_, subst}
 use mathlib.Core.Bool.{Bool, true, false}
 use mathlib.Core.List.{List, [], _∷_}
 use native.Mathlib.Omega.{arith}
-use lib.Dec.{ltb, eqb}
-use lib.ListN.{length}
+use lib.Dec.{leb}
+use lib.ListN.{set, length-set}
+use borrow.Author.Tests.{le-leb}
 use Rattle.base.specs.If.{if_then_else_}
-use Rattle.engine.specs.Edges.{pinTwo, pinFour, pinSix}
-use Rattle.pump.specs.Calls.{ticked, tickCall, isPin, edged, levelled, pinCall}
-use Rattle.pump.specs.Holder.{phaseCount, modelPhases, withCore, freshPump, soundPump}
-use Rattle.pump.specs.Reports.{numberOf, refused, reported}
+use Rattle.base.proofs.Each.{and-both}
+use Rattle.words.specs.Functions.{isPhase}
+use Rattle.words.specs.Phases.{isSoundPhase}
+use Rattle.words.specs.declared.commands.Command.{Command}
+use Rattle.words.specs.declared.phases.Phase.{Phase}
+use Rattle.engine.specs.Runs.{isOperating}
+use Rattle.engine.specs.Sound.{isSoundCore}
+use Rattle.engine.specs.Statuses.{inHand}
+use Rattle.engine.specs.declared.state.Core.{Core}
+use Rattle.command.specs.declared.obeying.Edit.{Edit}
+use Rattle.command.specs.declared.obeying.Edit.the-variants.{Keep, Write, Renew}
+use Rattle.soundness.specs.Kept as kept
+use Rattle.soundness.specs.Kept.{Table, Kept, WellBy}
+use Rattle.engine.proofs.Parts.{CoreClauses, core-clauses, run-clauses}
+use Rattle.soundness.proofs.Ticks.{kept-tick}
+use Rattle.soundness.proofs.Edges.{kept-pin-two, kept-pin-four, kept-pin-six, kept-clear-alarm}
+use Rattle.soundness.proofs.Commands.{kept-obey}
+use Rattle.line.specs.Lines.{emptyLine, afterByte, commandIn}
+use Rattle.line.proofs.Theorems.{byte-sound, places-kept, empty-sound, asked-sendable}
+use Rattle.pump.specs.Holder.{phaseCount, modelPhases, phaseAt, hereOf, withPhases, withPhase, edited, freshPump, freshPhases, isSoundPump}
+use Rattle.pump.specs.declared.calls.Listened.{Listened}
 use Rattle.pump.specs.declared.holder.Pump.{Pump}
-use Rattle.pump.specs.declared.reports.Refusal.the-variants.{Accepted, ShortBuffer, NoPin, NoLevel, Unsound}
-use Rattle.pump.specs.declared.reports.Report.{Report}
-use Rattle.statement.specs.Histories.{Call, byteIn, pinAt, tickIn, reportAfter, after, Model, Whole, refusalOf, refusalWhole}
-use Rattle.statement.proofs.Bytes.{byte-stays-whole}
-use Rattle.statement.proofs.Counting.{byte-count}
-use Rattle.statement.proofs.Refused.{refused-as-listed}
-use Rattle.statement.proofs.Wholes.{fresh-count, fresh-whole, tick-whole, pin-whole}
+use Rattle.statement.specs.Facts.{Sound, coreOf}
+use Rattle.statement.specs.Histories.{Call, byteIn, pinAt, tickIn, reportAfter, after, Model, Whole}
+use Rattle.statement.specs.Outcomes as out
+use Rattle.statement.specs.Outcomes.{Outcome, outcomeOf, numberOf, Edge, two, four, six, Does, Meets}
+use Rattle.statement.specs.Outcomes.{withCore, emptied, obeyed, obeying}
+use Rattle.statement.specs.Outcomes.{RefusedAs, not-sound, short-buffer, no-such-pin, no-such-level}
+use Rattle.statement.specs.Outcomes.{Hears, collected, other-address, alarm-pending, reset, obeys}
+use Rattle.statement.proofs.Outcomes.{call-meets, does-number}
+use Rattle.statement.proofs.Placing.{placed-at, placed-sound}
+use Rattle.pump.proofs.Renewing.{fresh-count}
+use Rattle.pump.proofs.Kept.{pump-phases, pump-core, pump-line, table-here}
+use Rattle.statement.proofs.Soundness.{sound-facts}
+use Rattle.statement.proofs.Wholes.{fresh-phases, fresh-whole, core-whole, line-whole, phases-whole}
 
--- ---- a call that replaces only the core leaves the phases and the line
-record Beside (p q : Pump) : Type 0 where
-  phases-same : q .phases ≡ p .phases
-  line-same : q .line ≡ p .line
+-- ---- every call keeps the number of phases
+with-phase-count : (p : Pump) (n : ℕ) (x : Phase) → phaseCount (withPhase p n x) ≡ phaseCount p
+unfolding withPhase
+with-phase-count p n x = go (isPhase (phaseCount p) n)
+  where
+    go : (t : Bool) → phaseCount (if t then withPhases p (set (p .phases) (n - 1) x) else p) ≡ phaseCount p
+    go true = length-set (p .phases) (n - 1) x
+    go false = refl
 
-beside-whole : (p q : Pump) → Whole p → Beside p q → soundPump q ≡ true → Whole q
-beside-whole p q w b e =
-    record {
-      model = subst Model (sym (ap length (b .phases-same))) (w .model);
-      places = rw (b .line-same) (w .places);
-      sound = e;
-    }
+edited-count : (p : Pump) (n : ℕ) (edit : Edit) → phaseCount (edited p n edit) ≡ phaseCount p
+edited-count p n Keep = refl
+edited-count p n (Write x) = with-phase-count p n x
+edited-count p n Renew = fresh-count (phaseCount p)
 
-module _ (p : Pump) where
-  same : Beside p p
-  same = record { phases-same = refl; line-same = refl }
+obeyed-count : (p : Pump) (command : Command) → phaseCount (obeyed p command .pump) ≡ phaseCount p
+obeyed-count p command =
+    edited-count (withCore (emptied p) (obeying p command .core)) (inHand (coreOf p)) (obeying p command .edit)
 
-  tick-beside : Beside p (tickCall p .pump)
-  unfolding tickCall
-  tick-beside = go (soundPump p)
+hears-count : (p : Pump) (b : ℕ) (s : Listened) → Hears p b s → phaseCount (s .pump) ≡ phaseCount p
+hears-count p b s (collected n) = refl
+hears-count p b s (other-address e n) = refl
+hears-count p b s (alarm-pending a e z k) = refl
+hears-count p b s (reset e z k r) = fresh-count (phaseCount p)
+hears-count p b s (obeys e z k) = obeyed-count p (commandIn (p .device .line))
+
+does-count : (p : Pump) (call : Call) (o : Outcome) → Does p call o → phaseCount (o .report .pump) ≡ phaseCount p
+does-count p (byteIn b buffer) o d = ap phaseCount (d .still .new-state) ∙ hears-count p b (d .said) (d .hears)
+does-count p (pinAt pin level) o d = ap phaseCount (d .still .new-state)
+does-count p tickIn o d = ap phaseCount (d .new-state)
+
+pub call-phases : (p : Pump) (call : Call) → phaseCount (reportAfter p call .pump) ≡ phaseCount p
+call-phases p call = go (call-meets p call)
+  where
+    go : Meets p call (outcomeOf p call) → phaseCount (reportAfter p call .pump) ≡ phaseCount p
+    go (out.refused k r t) = ap phaseCount (t .same-state)
+    go (out.accepted n d) = does-count p call (outcomeOf p call) d
+
+-- ---- and a whole state whole
+module _ (p : Pump) (w : Whole p) where
+  abbrev look : ℕ → Phase
+  look = phaseAt (p .phases)
+
+  abbrev n : ℕ
+  n = inHand (coreOf p)
+
+  table : Table (phaseCount p) look
+  table = table-here p (w .model .few) (w .sound)
+
+  core-kept : Kept (phaseCount p) look (coreOf p)
+  core-kept = pump-core p (w .sound)
+
+  -- what a command asks to be done to the phases
+  least : 1 ≤ n
+  least = go (isOperating (coreOf p .run))
     where
-      go : (t : Bool) → Beside p (if_then_else_ {A = Report} t (ticked p) (refused p Unsound) .pump)
-      go true = record { phases-same = refl; line-same = refl }
-      go false = same
+      core : CoreClauses (phaseCount p) (coreOf p) (hereOf p)
+      core = core-clauses (phaseCount p) (coreOf p) (hereOf p) core-kept
 
-  edged-beside : (pin : ℕ) (high : Bool) → Beside p (edged p pin high)
-  unfolding edged
-  edged-beside pin high = go (eqb pin 2) (eqb pin 4)
+      go : (t : Bool) → 1 ≤ (if t then coreOf p .run .place .current else coreOf p .chosen)
+      go true = run-clauses (phaseCount p) (coreOf p .run) (core .under-way) .least
+      go false = core .chosen-least
+
+  placed-whole :
+      (s : Core) (x : Phase)
+      → isSoundPhase (phaseCount p) x ≡ true
+      → n ≤ phaseCount p
+      → Kept (phaseCount p) (kept.withPhase look n x) s
+      → Whole (withPhase (withCore p s) n x)
+  unfolding withPhase
+  placed-whole s x e most k =
+      subst (λ t. Whole (if t then withPhases (withCore p s) placed else withCore p s))
+      (sym (and-both (leb 1 n) (leb n (phaseCount p)) (le-leb 1 n least) (le-leb n (phaseCount p) most)))
+      (phases-whole p placed s w (length-set (p .phases) (n - 1) x)
+      (placed-sound (phaseCount p) (p .phases) (n - 1) x (pump-phases p (w .sound)) e)
+      (ap (isSoundCore (phaseCount p) s) (placed-at (p .phases) n (s .run .place .current) x least most) ∙ k))
     where
-      go :
-          (t u : Bool)
-          → Beside p
-          (if t
-          then withCore p (pinTwo (p .core) high)
-          else if u
-          then withCore p (pinFour (p .core) high)
-          else withCore p (pinSix (p .core) high))
-      go true u = record { phases-same = refl; line-same = refl }
-      go false true = record { phases-same = refl; line-same = refl }
-      go false false = record { phases-same = refl; line-same = refl }
+      placed : List Phase
+      placed = set (p .phases) (n - 1) x
 
-  levelled-beside : (pin level : ℕ) → Beside p (levelled p pin level .pump)
-  unfolding levelled
-  levelled-beside pin level = go (ltb 1 level)
-    where
-      go : (t : Bool) → Beside p (if_then_else_ {A = Report} t (refused p NoLevel) (reported (edged p pin (eqb level 1)) 0) .pump)
-      go true = same
-      go false = edged-beside pin (eqb level 1)
+  edited-whole : (s : Core) (edit : Edit) → WellBy (phaseCount p) look (coreOf p) s edit → Whole (edited (withCore p s) n edit)
+  edited-whole s Keep k = core-whole p w s k
+  edited-whole s (Write x) k = placed-whole s x (k .0) (k .1) (k .2)
+  edited-whole s Renew k =
+      phases-whole p (freshPhases (phaseCount p)) s w (fresh-count (phaseCount p)) (fresh-phases (phaseCount p) (phaseCount p)) (k _)
 
-  pin-beside : (pin level : ℕ) → Beside p (pinCall p pin level .pump)
-  unfolding pinCall
-  pin-beside pin level = go (soundPump p) (isPin pin)
-    where
-      go :
-          (s t : Bool)
-          → Beside p (if_then_else_ {A = Report} s (if t then levelled p pin level else refused p NoPin) (refused p Unsound) .pump)
-      go true true = levelled-beside pin level
-      go true false = same
-      go false t = same
+  edge-whole : (level : Bool) (pin : ℕ) (s : Core) → Edge (coreOf p) level pin s → Whole (withCore p s)
+  edge-whole level pin s two = core-whole p w _ (kept-pin-two (phaseCount p) look table (coreOf p) core-kept level)
+  edge-whole level pin s four = core-whole p w _ (kept-pin-four (phaseCount p) look table (coreOf p) core-kept level)
+  edge-whole level pin s six = core-whole p w _ (kept-pin-six (phaseCount p) look table (coreOf p) core-kept level)
 
--- ---- every call keeps the number of phases, and a whole state whole
-pub call-phases : (p : Pump) (c : Call) → phaseCount (reportAfter p c .pump) ≡ phaseCount p
-call-phases p (byteIn b buffer) = byte-count p b buffer
-call-phases p (pinAt pin level) = ap length (pin-beside p pin level .phases-same)
-call-phases p tickIn = ap length (tick-beside p .phases-same)
+  emptied-whole : Whole (emptied p)
+  emptied-whole = line-whole p w emptyLine refl empty-sound
 
+obeyed-whole : (p : Pump) → Whole p → Whole (obeyed p (commandIn (p .device .line)) .pump)
+obeyed-whole p w =
+    let command = commandIn (p .device .line) in
+    edited-whole (emptied p) (emptied-whole p w) (obeying p command .core) (obeying p command .edit)
+    (kept-obey (phaseCount p) (look p w) (table p w) (coreOf p) (core-kept p w) (w .model .some) _ command
+    (asked-sendable (p .device .line) .number-writable))
+
+hears-whole : (p : Pump) → Whole p → (b : ℕ) (s : Listened) → Hears p b s → Whole (s .pump)
+hears-whole p w b s (collected n) =
+    let line = p .device .line in
+    line-whole p w (afterByte line b .line) (places-kept line b (w .places)) (byte-sound line b (w .places) (pump-line p (w .sound)))
+hears-whole p w b s (other-address e n) = emptied-whole p w
+hears-whole p w b s (alarm-pending a e z k) =
+    core-whole (emptied p) (emptied-whole p w) _ (kept-clear-alarm (phaseCount p) (look p w) (coreOf p) (core-kept p w))
+hears-whole p w b s (reset e z k r) = subst (λ c. Whole (obeyed p c .pump)) r (obeyed-whole p w)
+hears-whole p w b s (obeys e z k) = obeyed-whole p w
+
+does-whole : (p : Pump) → Whole p → (call : Call) (o : Outcome) → Does p call o → Whole (o .report .pump)
+does-whole p w (byteIn b buffer) o d = subst Whole (sym (d .still .new-state)) (hears-whole p w b (d .said) (d .hears))
+does-whole p w (pinAt pin level) o d = subst Whole (sym (d .still .new-state)) (edge-whole p w (d .is-high) pin (d .core) (d .edge))
+does-whole p w tickIn o d =
+    subst Whole (sym (d .new-state)) (core-whole p w _ (kept-tick (phaseCount p) (look p w) (table p w) (coreOf p) (core-kept p w)))
+
+pub call-whole : (p : Pump) (call : Call) → Whole p → Whole (reportAfter p call .pump)
+call-whole p call w = go (call-meets p call)
+  where
+    go : Meets p call (outcomeOf p call) → Whole (reportAfter p call .pump)
+    go (out.refused k r t) = subst Whole (sym (t .same-state)) w
+    go (out.accepted n d) = does-whole p w call (outcomeOf p call) d
+
+-- ---- any number of calls
 pub after-phases : (p : Pump) (calls : List Call) → phaseCount (after p calls) ≡ phaseCount p
 unfolding after
 after-phases p [] = refl
 after-phases p (c ∷ calls) = after-phases (reportAfter p c .pump) calls ∙ call-phases p c
-
-pub call-whole : (p : Pump) (c : Call) → Whole p → Whole (reportAfter p c .pump)
-call-whole p (byteIn b buffer) w = byte-stays-whole p b buffer w
-call-whole p (pinAt pin level) w = beside-whole p _ w (pin-beside p pin level) (pin-whole p (w .model .few) (w .sound) pin level)
-call-whole p tickIn w = beside-whole p _ w (tick-beside p) (tick-whole p (w .model .few) (w .sound))
 
 pub after-whole : (p : Pump) (calls : List Call) → Whole p → Whole (after p calls)
 unfolding after
@@ -117,33 +193,24 @@ phases-after n calls = after-phases (freshPump n) calls ∙ fresh-count n
 pub whole-after : (n : ℕ) → Model n → (calls : List Call) → Whole (after (freshPump n) calls)
 whole-after n m calls = after-whole (freshPump n) calls (fresh-whole n m)
 
-pub sound-after : (n : ℕ) → Model n → (calls : List Call) → soundPump (after (freshPump n) calls) ≡ true
+pub sound-after : (n : ℕ) → Model n → (calls : List Call) → isSoundPump (after (freshPump n) calls) ≡ true
 sound-after n m calls = whole-after n m calls .sound
 
--- ---- what is refused then, whatever came before
-listed-whole : (p : Pump) (c : Call) → soundPump p ≡ true → refusalOf p c ≡ refusalWhole c
-listed-whole p (byteIn b buffer) e = simp e
-listed-whole p (pinAt pin level) e = simp e
-listed-whole p tickIn e = simp e
+-- ---- no call is refused because the state is not sound
+number-few : (p : Pump) → Sound p → (call : Call) (k : ℕ) → RefusedAs p call k → k ≤ 3
+number-few p s call k (not-sound any n) = absurd (n s)
+number-few p s call k (short-buffer b buffer t h) = omega arith
+number-few p s call k (no-such-pin pin level t n) = omega arith
+number-few p s call k (no-such-level pin level t y h) = omega arith
 
-pub refused-after :
-    (n : ℕ) → Model n → (calls : List Call) (c : Call) → reportAfter (after (freshPump n) calls) c .refusal ≡ refusalWhole c
-refused-after n m calls c =
-    refused-as-listed (after (freshPump n) calls) c ∙ listed-whole (after (freshPump n) calls) c (sound-after n m calls)
-
-not-unsound : (c : Call) → numberOf (refusalWhole c) ≡ 4 → ⊥
-not-unsound (byteIn b buffer) = go (ltb (length buffer) 24)
+sound-number : (p : Pump) → Sound p → (call : Call) → numberOf (outcomeOf p call) ≤ 3
+sound-number p s call = go (call-meets p call)
   where
-    go : (t : Bool) → numberOf (if t then ShortBuffer else Accepted) ≡ 4 → ⊥
-    go true e = omega arith
-    go false e = omega arith
-not-unsound (pinAt pin level) = go (isPin pin) (ltb 1 level)
-  where
-    go : (t u : Bool) → numberOf (if t then if u then NoLevel else Accepted else NoPin) ≡ 4 → ⊥
-    go true true e = omega arith
-    go true false e = omega arith
-    go false u e = omega arith
-not-unsound tickIn = λ e. omega arith
+    go : Meets p call (outcomeOf p call) → numberOf (outcomeOf p call) ≤ 3
+    go (out.refused k r t) = omega (arith, t .number, number-few p s call k r)
+    go (out.accepted n d) = omega (arith, does-number p call (outcomeOf p call) d)
 
-pub never-unsound : (n : ℕ) → Model n → (calls : List Call) (c : Call) → reportAfter (after (freshPump n) calls) c .refusal ≡ Unsound → ⊥
-never-unsound n m calls c e = not-unsound c (ap numberOf (sym (refused-after n m calls c) ∙ e))
+pub never-unsound : (n : ℕ) → Model n → (calls : List Call) (call : Call) → numberOf (outcomeOf (after (freshPump n) calls) call) ≡ 4 → ⊥
+never-unsound n m calls call e =
+    let p = after (freshPump n) calls in
+    omega (arith, sound-number p (sound-facts p (sound-after n m calls)) call)

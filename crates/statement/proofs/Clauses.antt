@@ -1,236 +1,287 @@
--- Clauses of soundness as tests and as facts: function data, rates, loops, characters, and what stands in which phase.
+-- Clauses of soundness as tests and as facts: function data, what stands in which phase, rates, phases, visits, the line, the mode.
 -- Assumes nothing.
 use Prim.Native.Nat.{ℕ, zero, suc, _≤_, _<_}
-use mathlib.Core.Path.{_≡_, refl, sym, ap}
-use mathlib.Core.Logic.{_⊎_, inl, inr}
+use mathlib.Core.Path.{_≡_, refl, sym, ap, _∙_}
+use mathlib.Core.Logic.{_⊎_, inl, inr, ⊎-elim, _↔_}
 use mathlib.Core.Bool.{Bool, true, false, _&&_, _||_, not}
 use mathlib.Core.List.{List, [], _∷_}
-use native.Mathlib.Nat.{le-of-suc-le-suc, not-suc-le-zero}
+use native.Mathlib.Nat.{zero-mul, zero-div}
 use native.Mathlib.Omega.{arith}
-use lib.Dec.{leb, eqb}
+use lib.Dec.{leb, ltb, eqb}
 use lib.ListN.{length, getD}
-use borrow.Author.Tests.{leb-true, leb-false, le-leb, lt-leb, eqb-true, eqb-false, ne-eqb, not-true}
-use Rattle.base.proofs.Choices.{and-left, and-right, and-false, false-true}
-use Rattle.base.proofs.Each.{Each, and-both, either}
+use borrow.Author.Tests.{leb-true, le-leb, ltb-true, lt-ltb, eqb-true, eqb-false, eq-eqb, not-true}
+use Rattle.base.proofs.Choices.{and-left, and-right, and-false, false-true, within}
+use Rattle.base.proofs.Each.{each, all-of, and-both, either}
+use Rattle.decimal.proofs.Theorems.{writable-iff}
+use Rattle.drive.specs.Syringe.{inFemtolitres, target}
 use Rattle.drive.proofs.Theorems.{usable-iff}
-use Rattle.program.specs.Functions.{fits, pumps}
-use Rattle.program.specs.declared.functions.Function.{Function}
-use Rattle.program.specs.declared.functions.Function.the-variants as f
-use Rattle.loops.specs.Loops.{slot, apart, loopTests}
-use Rattle.loops.specs.declared.Loop.{Loop}
-use Rattle.loops.specs.declared.Loops.{Loops}
-use Rattle.dispense.specs.Rates.{usableRate}
+use Rattle.words.specs.Functions.{fits, isRatePhase, isWait}
+use Rattle.words.specs.Phases.{isSoundPhase}
+use Rattle.words.specs.declared.functions.Function.{Function}
+use Rattle.words.specs.declared.functions.Function.the-variants as f
+use Rattle.words.specs.declared.phases.Phase.{Phase}
+use Rattle.dispense.specs.Rates.{isUsableRate, isNoRate}
+use Rattle.dispense.specs.Visits.{visitTests, isSoundVisit}
 use Rattle.dispense.specs.declared.rates.Rate.{Rate}
 use Rattle.dispense.specs.declared.rates.Rate.the-variants.{NoRate, Current}
-use Rattle.line.specs.Characters.{isDropped, isLower, standing}
-use Rattle.line.specs.Lines.{allStanding}
-use Rattle.engine.specs.Sound.{waits}
-use Rattle.statement.specs.Facts.{Between, Datum, Usable, Character}
+use Rattle.dispense.specs.declared.visits.Visit.{Visit}
+use Rattle.line.specs.Characters.{standing}
+use Rattle.line.specs.Lines.{text, allStanding, isSoundLine}
+use Rattle.line.specs.declared.lines.Line.{Line}
+use Rattle.line.proofs.Characters.{dropped-low, not-dropped, lower, below-lower, above-lower, stands, falls-dropped, falls-delete}
+use Rattle.engine.specs.Runs.{isEntering}
+use Rattle.engine.specs.Sound.{isSoundMode, idleTests, isNoTrap}
+use Rattle.engine.specs.declared.state.Mode.{Mode}
+use Rattle.engine.specs.declared.state.Mode.the-variants.{Stopped, Paused, Running}
+use Rattle.engine.specs.declared.state.Pending.{Pending}
+use Rattle.engine.specs.declared.state.Run.{Run}
+use Rattle.engine.specs.declared.state.Trap.{Trap}
+use Rattle.engine.specs.declared.state.Trap.the-variants.{NoTrap, Armed}
+use Rattle.engine.specs.declared.state.Work.{Work}
+use Rattle.engine.specs.declared.state.Work.the-variants.{Entering, Visiting, Pausing, Waiting}
+use Rattle.engine.proofs.Parts.{phase-clauses, phase-sound}
+use Rattle.pump.specs.Holder.{stopPhase, isSoundPhases}
+use Rattle.statement.specs.Facts.{Between, Datum, PhaseFacts, Usable, VisitFacts, Character, LineFacts, Nothing}
 
 -- ---- numbers between two ends
-pub between : (least n most : ℕ) → (leb least n && leb n most) ≡ true → Between least n most
-between least n most h =
-    (leb-true least n (and-left (leb least n) (leb n most) h), leb-true n most (and-right (leb least n) (leb n most) h))
+at-most : (n most : ℕ) → (leb n most ≡ true) ↔ (n ≤ most)
+at-most n most = (leb-true n most, le-leb n most)
 
-pub between-test : (least n most : ℕ) → Between least n most → (leb least n && leb n most) ≡ true
-between-test least n most h = and-both (leb least n) (leb n most) (le-leb least n (h .0)) (le-leb n most (h .1))
+pub between : (least n most : ℕ) → ((leb least n && leb n most) ≡ true) ↔ Between least n most
+between least n most = (
+  (λ h. (leb-true least n (and-left (leb least n) (leb n most) h), leb-true n most (and-right (leb least n) (leb n most) h))),
+  (λ b. and-both (leb least n) (leb n most) (le-leb least n (b .0)) (le-leb n most (b .1))),
+)
 
 -- ---- a function's datum
-pub datum : (phases : ℕ) (g : Function) → fits phases g ≡ true → Datum phases g
-datum phases f.Rat h = tt
-datum phases f.Inc h = tt
-datum phases f.Dec h = tt
-datum phases f.Stp h = tt
-datum phases (f.Jmp n) h = between 1 n phases h
-datum phases (f.Lop n) h = between 1 n 99 h
-datum phases f.Lps h = tt
-datum phases f.Lpe h = tt
-datum phases (f.Pas n) h = leb-true n 99 h
-datum phases (f.Tenths n) h = between 1 n 99 h
-datum phases (f.If n) h = between 1 n phases h
-datum phases (f.Evn n) h = between 1 n phases h
-datum phases f.Evr h = tt
-datum phases f.Bep h = tt
-datum phases (f.Out n) h = leb-true n 1 h
+anyhow : (_≡_ {A = Bool} true true) ↔ Unit {0}
+anyhow = ((λ h. tt), (λ u. refl))
 
-pub datum-test : (phases : ℕ) (g : Function) → Datum phases g → fits phases g ≡ true
-datum-test phases f.Rat d = refl
-datum-test phases f.Inc d = refl
-datum-test phases f.Dec d = refl
-datum-test phases f.Stp d = refl
-datum-test phases (f.Jmp n) d = between-test 1 n phases d
-datum-test phases (f.Lop n) d = between-test 1 n 99 d
-datum-test phases f.Lps d = refl
-datum-test phases f.Lpe d = refl
-datum-test phases (f.Pas n) d = le-leb n 99 d
-datum-test phases (f.Tenths n) d = between-test 1 n 99 d
-datum-test phases (f.If n) d = between-test 1 n phases d
-datum-test phases (f.Evn n) d = between-test 1 n phases d
-datum-test phases f.Evr d = refl
-datum-test phases f.Bep d = refl
-datum-test phases (f.Out n) d = le-leb n 1 d
+datum : (phases : ℕ) (g : Function) → (fits phases g ≡ true) ↔ Datum phases g
+datum phases f.Rat = anyhow
+datum phases f.Inc = anyhow
+datum phases f.Dec = anyhow
+datum phases f.Stp = anyhow
+datum phases (f.Jmp n) = between 1 n phases
+datum phases (f.Lop n) = between 1 n 99
+datum phases f.Lps = anyhow
+datum phases f.Lpe = anyhow
+datum phases (f.Pas n) = at-most n 99
+datum phases (f.Tenths n) = between 1 n 99
+datum phases (f.If n) = between 1 n phases
+datum phases (f.Evn n) = between 1 n phases
+datum phases f.Evr = anyhow
+datum phases f.Bep = anyhow
+datum phases (f.Out n) = at-most n 1
 
 -- ---- rate phases, and PAS 0
-abbrev pub RatePhase : Function → Type 0
+abbrev RatePhase : Function → Type 0
 RatePhase g = (g ≡ f.Rat) ⊎ (g ≡ f.Inc) ⊎ (g ≡ f.Dec)
 
-pub rate-phase : (g : Function) → pumps g ≡ true → RatePhase g
-rate-phase f.Rat h = inl refl
-rate-phase f.Inc h = inr (inl refl)
-rate-phase f.Dec h = inr (inr refl)
-rate-phase f.Stp h = false-true h
-rate-phase (f.Jmp n) h = false-true h
-rate-phase (f.Lop n) h = false-true h
-rate-phase f.Lps h = false-true h
-rate-phase f.Lpe h = false-true h
-rate-phase (f.Pas n) h = false-true h
-rate-phase (f.Tenths n) h = false-true h
-rate-phase (f.If n) h = false-true h
-rate-phase (f.Evn n) h = false-true h
-rate-phase f.Evr h = false-true h
-rate-phase f.Bep h = false-true h
-rate-phase (f.Out n) h = false-true h
+pub stands-in : (g : Function) → (isRatePhase g ≡ true → RatePhase g) × (isWait g ≡ true → g ≡ f.Pas 0)
+stands-in f.Rat = ((λ h. inl refl), (λ h. false-true h))
+stands-in f.Inc = ((λ h. inr (inl refl)), (λ h. false-true h))
+stands-in f.Dec = ((λ h. inr (inr refl)), (λ h. false-true h))
+stands-in f.Stp = ((λ h. false-true h), (λ h. false-true h))
+stands-in (f.Jmp n) = ((λ h. false-true h), (λ h. false-true h))
+stands-in (f.Lop n) = ((λ h. false-true h), (λ h. false-true h))
+stands-in f.Lps = ((λ h. false-true h), (λ h. false-true h))
+stands-in f.Lpe = ((λ h. false-true h), (λ h. false-true h))
+stands-in (f.Pas n) = ((λ h. false-true h), (λ h. ap f.Pas (eqb-true n 0 h)))
+stands-in (f.Tenths n) = ((λ h. false-true h), (λ h. false-true h))
+stands-in (f.If n) = ((λ h. false-true h), (λ h. false-true h))
+stands-in (f.Evn n) = ((λ h. false-true h), (λ h. false-true h))
+stands-in f.Evr = ((λ h. false-true h), (λ h. false-true h))
+stands-in f.Bep = ((λ h. false-true h), (λ h. false-true h))
+stands-in (f.Out n) = ((λ h. false-true h), (λ h. false-true h))
 
-pub rate-phase-test : (g : Function) → RatePhase g → pumps g ≡ true
-rate-phase-test g (inl e) = ap pumps e
-rate-phase-test g (inr (inl e)) = ap pumps e
-rate-phase-test g (inr (inr e)) = ap pumps e
+rate-phase-test : (g : Function) → RatePhase g → isRatePhase g ≡ true
+rate-phase-test g (inl e) = ap isRatePhase e
+rate-phase-test g (inr (inl e)) = ap isRatePhase e
+rate-phase-test g (inr (inr e)) = ap isRatePhase e
 
-pub wait-phase : (g : Function) → waits g ≡ true → g ≡ f.Pas 0
-wait-phase f.Rat h = false-true h
-wait-phase f.Inc h = false-true h
-wait-phase f.Dec h = false-true h
-wait-phase f.Stp h = false-true h
-wait-phase (f.Jmp n) h = false-true h
-wait-phase (f.Lop n) h = false-true h
-wait-phase f.Lps h = false-true h
-wait-phase f.Lpe h = false-true h
-wait-phase (f.Pas n) h = ap f.Pas (eqb-true n 0 h)
-wait-phase (f.Tenths n) h = false-true h
-wait-phase (f.If n) h = false-true h
-wait-phase (f.Evn n) h = false-true h
-wait-phase f.Evr h = false-true h
-wait-phase f.Bep h = false-true h
-wait-phase (f.Out n) h = false-true h
+-- ---- the phases
+module _ (phases : ℕ) (p : Phase) where
+  phase-facts : isSoundPhase phases p ≡ true → PhaseFacts phases p
+  phase-facts h =
+      let k = phase-clauses phases p h in
+      record {
+        datum = datum phases (p .function) .0 (k .datum-fits);
+        rate = writable-iff (p .rate) .0 (k .rate-written);
+        volume = writable-iff (p .volume) .0 (k .volume-written);
+      }
 
--- ---- a usable rate
-pub usable-rate : (d : ℕ) (rate : Rate) → usableRate d rate ≡ true → Usable d rate
-usable-rate d NoRate h = false-true h
-usable-rate d (Current unit r) h = usable-iff d r unit .0 h
+  phase-test : PhaseFacts phases p → isSoundPhase phases p ≡ true
+  phase-test k =
+      phase-sound phases p
+      (record {
+        rate-written = writable-iff (p .rate) .1 (k .rate);
+        volume-written = writable-iff (p .volume) .1 (k .volume);
+        datum-fits = datum phases (p .function) .1 (k .datum);
+      })
 
-pub usable-rate-test : (d : ℕ) (rate : Rate) → Usable d rate → usableRate d rate ≡ true
-usable-rate-test d NoRate u = absurd u
-usable-rate-test d (Current unit r) u = usable-iff d r unit .1 u
+module _ (phases : ℕ) where
+  pub each-phase : (ps : List Phase) → isSoundPhases phases ps ≡ true → (i : ℕ) → i < length ps → PhaseFacts phases (getD ps i stopPhase)
+  unfolding isSoundPhases
+  each-phase [] h i k = absurd (omega arith)
+  each-phase (p ∷ ps) h zero k = phase-facts phases p (and-left (isSoundPhase phases p) (isSoundPhases phases ps) h)
+  each-phase (p ∷ ps) h (suc i) k = each-phase ps (and-right (isSoundPhase phases p) (isSoundPhases phases ps) h) i (omega arith)
 
--- ---- what a test that failed tells of its parts
-or-left : (t u : Bool) → (t || u) ≡ false → t ≡ false
-or-left true u h = h
-or-left false u h = refl
+  pub phases-test : (ps : List Phase) → ((i : ℕ) → i < length ps → PhaseFacts phases (getD ps i stopPhase)) → isSoundPhases phases ps ≡ true
+  unfolding isSoundPhases
+  phases-test [] h = refl
+  phases-test (p ∷ ps) h =
+      and-both (isSoundPhase phases p) (isSoundPhases phases ps) (phase-test phases p (h 0 (omega arith)))
+      (phases-test ps (λ i k. h (suc i) (omega arith)))
 
-or-right : (t u : Bool) → (t || u) ≡ false → u ≡ false
-or-right true u h = false-true (sym h)
-or-right false u h = h
+-- ---- a visit
+usable-rate : (d : ℕ) (rate : Rate) → (isUsableRate d rate ≡ true) ↔ Usable d rate
+usable-rate d NoRate = ((λ h. false-true h), (λ u. absurd u))
+usable-rate d (Current unit r) = usable-iff d r unit
 
-and-rest : (t u : Bool) → t ≡ true → (t && u) ≡ false → u ≡ false
-and-rest true u e h = h
-and-rest false u e h = false-true e
+-- no volume has no target
+no-target : (d volume : ℕ) → volume ≡ 0 → target d volume ≡ 0
+unfolding target inFemtolitres
+no-target d volume e = rw e (simp (zero-mul, zero-div))
 
-bounded-by : (phases : ℕ) (x : Loop) → (leb (x .begun) phases && leb (x .passes) 98) ≡ true → (x .begun ≤ phases) × (x .passes ≤ 98)
-bounded-by phases x h =
-    let begun = and-left (leb (x .begun) phases) (leb (x .passes) 98) h in
-    let passes = and-right (leb (x .begun) phases) (leb (x .passes) 98) h in
-    (leb-true _ _ begun, leb-true _ _ passes)
+module _ (d : ℕ) (here : Phase) (rate : Rate) (v : Visit) where
+  pub visit-facts : isSoundVisit d here rate v ≡ true → VisitFacts d here rate v
+  unfolding isSoundVisit
+  visit-facts h =
+      let t = each (visitTests d here rate v) h in
+      let aim : v .target ≡ target d (here .volume) = eqb-true _ _ (t .1 .0) in
+      record {
+        store-below = ltb-true _ _ (t .0);
+        aimed = aim;
+        given-below =
+            λ ne.
+            either (ltb (v .given) (v .target)) (eqb (here .volume) 0 && eqb (v .given) 0) (ltb-true _ _)
+            (λ z. absurd (ne (eqb-true _ _ (and-left (eqb (here .volume) 0) (eqb (v .given) 0) z))))
+            (t .1 .1 .0);
+        none-counted =
+            λ z.
+            either (ltb (v .given) (v .target)) (eqb (here .volume) 0 && eqb (v .given) 0)
+            (λ k. absurd (omega (arith, aim, no-target d (here .volume) z, ltb-true (v .given) (v .target) k)))
+            (λ k. eqb-true _ _ (and-right (eqb (here .volume) 0) (eqb (v .given) 0) k))
+            (t .1 .1 .0);
+        usable = usable-rate d rate .0 (t .1 .1 .1 .0);
+        in-rate-phase = stands-in (here .function) .0 (t .1 .1 .1 .1 .0);
+      }
 
--- ---- tests that are asked only of open loops
-unless : (c i : ℕ) (t : Bool) → (leb c i || t) ≡ true → i < c → t ≡ true
-unless c i t h k = either (leb c i) t (λ e. absurd (omega (arith, leb-true c i e))) (λ e. e) h
+  given-test :
+      VisitFacts d here rate v → (t : Bool) → eqb (here .volume) 0 ≡ t → (ltb (v .given) (v .target) || t && eqb (v .given) 0) ≡ true
+  given-test k true z = rw (eq-eqb (v .given) 0 (k .none-counted (eqb-true _ _ z))) (or-true (ltb (v .given) (v .target)))
+    where
+      or-true : (t : Bool) → (t || true) ≡ true
+      or-true true = refl
+      or-true false = refl
+  given-test k false z = rw (lt-ltb (v .given) (v .target) (k .given-below (eqb-false _ _ z))) refl
 
-pub unless-test : (c i : ℕ) (t : Bool) → (i < c → t ≡ true) → (leb c i || t) ≡ true
-unless-test c i t k = go (leb c i) refl
-  where
-    go : (b : Bool) → leb c i ≡ b → (b || t) ≡ true
-    go true e = refl
-    go false e = k (leb-false c i e)
-
--- ---- the open loops
-module _ (phases : ℕ) (l : Loops) (h : Each (loopTests phases l)) where
-  pub three : l .count ≤ 3
-  three = leb-true (l .count) 3 (h .0)
-
-  pub slot-bounded : (i : ℕ) → i < l .count → (slot l i .begun ≤ phases) × (slot l i .passes ≤ 98)
-  slot-bounded zero k = bounded-by phases (slot l 0) (unless (l .count) 0 _ (h .1 .0) k)
-  slot-bounded (suc zero) k = bounded-by phases (slot l 1) (unless (l .count) 1 _ (h .1 .1 .0) k)
-  slot-bounded (suc (suc zero)) k = bounded-by phases (slot l 2) (unless (l .count) 2 _ (h .1 .1 .1 .0) k)
-  slot-bounded (suc (suc (suc i))) k = absurd (omega (arith, three))
-
-  differs : (i j : ℕ) → j < l .count → apart l i j ≡ true → slot l i .begun ≡ slot l j .begun → ⊥
-  differs i j k t =
-      eqb-false (slot l i .begun) (slot l j .begun)
-      (not-true (eqb (slot l i .begun) (slot l j .begun)) (unless (l .count) j (not (eqb (slot l i .begun) (slot l j .begun))) t k))
-
-  pub slots-differ : (i j : ℕ) → i < j → j < l .count → slot l i .begun ≡ slot l j .begun → ⊥
-  slots-differ zero zero m k = absurd (omega arith)
-  slots-differ zero (suc zero) m k = differs 0 1 k (h .1 .1 .1 .1 .0)
-  slots-differ zero (suc (suc zero)) m k = differs 0 2 k (h .1 .1 .1 .1 .1 .0)
-  slots-differ (suc zero) zero m k = absurd (omega arith)
-  slots-differ (suc zero) (suc zero) m k = absurd (omega arith)
-  slots-differ (suc zero) (suc (suc zero)) m k = differs 1 2 k (h .1 .1 .1 .1 .1 .1 .0)
-  slots-differ (suc (suc i)) zero m k = absurd (omega arith)
-  slots-differ (suc (suc i)) (suc zero) m k = absurd (omega arith)
-  slots-differ (suc (suc i)) (suc (suc zero)) m k = absurd (omega arith)
-  slots-differ i (suc (suc (suc j))) m k = absurd (omega (arith, three))
-
-pub loop-tests-of :
-    (phases : ℕ) (l : Loops)
-    → l .count ≤ 3
-    → ((i : ℕ) → i < l .count → (slot l i .begun ≤ phases) × (slot l i .passes ≤ 98))
-    → ((i j : ℕ) → i < j → j < l .count → slot l i .begun ≡ slot l j .begun → ⊥)
-    → Each (loopTests phases l)
-loop-tests-of phases l t b d =
-    (le-leb (l .count) 3 t, (in-range 0, (in-range 1, (in-range 2, apart-all))))
-  where
-    in-range : (i : ℕ) → (leb (l .count) i || leb (slot l i .begun) phases && leb (slot l i .passes) 98) ≡ true
-    in-range i =
-        unless-test (l .count) i _
-        (λ k. and-both (leb (slot l i .begun) phases) (leb (slot l i .passes) 98) (le-leb _ _ (b i k .0)) (le-leb _ _ (b i k .1)))
-
-    differ : (i j : ℕ) → i < j → apart l i j ≡ true
-    differ i j m = unless-test (l .count) j _ (λ k. ap not (ne-eqb _ _ (d i j m k)))
-
-    apart-all : Each (apart l 0 1 ∷ apart l 0 2 ∷ apart l 1 2 ∷ [])
-    apart-all = (differ 0 1 (omega arith), (differ 0 2 (omega arith), (differ 1 2 (omega arith), tt)))
+  pub visit-test : VisitFacts d here rate v → isSoundVisit d here rate v ≡ true
+  unfolding isSoundVisit
+  visit-test k =
+      all-of (visitTests d here rate v) (
+        lt-ltb _ _ (k .store-below),
+        (
+          eq-eqb _ _ (k .aimed),
+          (
+            given-test k (eqb (here .volume) 0) refl,
+            (usable-rate d rate .1 (k .usable), (rate-phase-test (here .function) (k .in-rate-phase), tt)),
+          ),
+        ),
+      )
 
 -- ---- the characters of a line
 module _ (c : ℕ) where
-  pub character : standing c ≡ true → Character c
-  unfolding standing isDropped isLower
+  falls-lower : 97 ≤ c → c ≤ 122 → false ≡ standing c
+  unfolding standing
+  falls-lower l h = simp (lower c l (omega arith), and-false)
+
+  character : standing c ≡ true → Character c
   character h =
-      let stays = and-left (not (leb c 32 || eqb c 127)) (not (leb 97 c && leb c 122)) h in
-      let upper = and-right (not (leb c 32 || eqb c 127)) (not (leb 97 c && leb c 122)) h in
-      let dropped : (leb c 32 || eqb c 127) ≡ false = not-true (leb c 32 || eqb c 127) stays in
-      let lower : (leb 97 c && leb c 122) ≡ false = not-true (leb 97 c && leb c 122) upper in
       record {
-        above-blank = leb-false c 32 (or-left (leb c 32) (eqb c 127) dropped);
-        no-delete = eqb-false c 127 (or-right (leb c 32) (eqb c 127) dropped);
-        no-lower = λ k. leb-false c 122 (and-rest (leb 97 c) (leb c 122) (le-leb 97 c k) lower);
+        above-blank = ⊎-elim (λ k. false-true (falls-dropped c (dropped-low c (omega arith)) ∙ h)) (λ k. k) (within c 32);
+        no-delete = λ e. false-true (falls-delete c e ∙ h);
+        no-lower = λ l. ⊎-elim (λ k. false-true (falls-lower l k ∙ h)) (λ k. k) (within c 122);
       }
 
-  pub character-test : Character c → standing c ≡ true
-  unfolding standing isDropped isLower
-  character-test k = simp (lt-leb c 32 (k .above-blank), ne-eqb c 127 (k .no-delete), lower (leb 97 c) refl)
-    where
-      lower : (t : Bool) → leb 97 c ≡ t → (leb 97 c && leb c 122) ≡ false
-      lower true e = simp (lt-leb c 122 (k .no-lower (leb-true 97 c e))) (and-false (leb 97 c))
-      lower false e = rw e refl
+  character-test : Character c → standing c ≡ true
+  character-test k =
+      sym
+      (stands c (not-dropped c (k .above-blank) (k .no-delete))
+      (⊎-elim (λ l. above-lower c (k .no-lower l)) (below-lower c) (within 97 c)))
 
-pub each-character : (s : List ℕ) → allStanding s ≡ true → (i : ℕ) → i < length s → Character (getD s i 0)
+each-character : (s : List ℕ) → allStanding s ≡ true → (i : ℕ) → i < length s → Character (getD s i 0)
 unfolding allStanding
-each-character [] h i k = absurd (not-suc-le-zero k)
+each-character [] h i k = absurd (omega arith)
 each-character (c ∷ s) h zero k = character c (and-left (standing c) (allStanding s) h)
-each-character (c ∷ s) h (suc i) k = each-character s (and-right (standing c) (allStanding s) h) i (le-of-suc-le-suc k)
+each-character (c ∷ s) h (suc i) k = each-character s (and-right (standing c) (allStanding s) h) i (omega arith)
 
-pub characters-test : (s : List ℕ) → ((i : ℕ) → i < length s → Character (getD s i 0)) → allStanding s ≡ true
+characters-test : (s : List ℕ) → ((i : ℕ) → i < length s → Character (getD s i 0)) → allStanding s ≡ true
 unfolding allStanding
 characters-test [] h = refl
 characters-test (c ∷ s) h =
     and-both (standing c) (allStanding s) (character-test c (h 0 (omega arith))) (characters-test s (λ i k. h (suc i) (omega arith)))
+
+-- ---- the line
+module _ (l : Line) where
+  abbrev lens : Bool
+  lens = leb (l .len) 40 && (not (l .overlong) || leb 40 (l .len))
+
+  pub line-facts : isSoundLine l ≡ true → LineFacts l
+  unfolding isSoundLine
+  line-facts h =
+      let k = and-left lens (allStanding (text l)) h in
+      record {
+        forty = leb-true _ _ (and-left (leb (l .len) 40) (not (l .overlong) || leb 40 (l .len)) k);
+        overlong-full =
+            λ o.
+            either (not (l .overlong)) (leb 40 (l .len)) (λ e. false-true (sym (not-true (l .overlong) e) ∙ o)) (leb-true 40 (l .len))
+            (and-right (leb (l .len) 40) (not (l .overlong) || leb 40 (l .len)) k);
+        characters = each-character (text l) (and-right lens (allStanding (text l)) h);
+      }
+
+  pub line-test : LineFacts l → isSoundLine l ≡ true
+  unfolding isSoundLine
+  line-test k =
+      and-both lens (allStanding (text l))
+      (and-both (leb (l .len) 40) (not (l .overlong) || leb 40 (l .len)) (le-leb _ _ (k .forty)) (full (l .overlong) refl))
+      (characters-test (text l) (k .characters))
+    where
+      full : (t : Bool) → l .overlong ≡ t → (not t || leb 40 (l .len)) ≡ true
+      full true e = le-leb 40 (l .len) (k .overlong-full e)
+      full false e = refl
+
+-- ---- the mode: a stopped pump has nothing under way
+entering-of : (w : Work) → isEntering w ≡ true → w ≡ Entering
+entering-of Entering h = refl
+entering-of (Visiting v) h = false-true h
+entering-of (Pausing left) h = false-true h
+entering-of Waiting h = false-true h
+
+no-trap-of : (t : Trap) → isNoTrap t ≡ true → t ≡ NoTrap
+no-trap-of NoTrap h = refl
+no-trap-of (Armed n) h = false-true h
+
+no-rate-of : (r : Rate) → isNoRate r ≡ true → r ≡ NoRate
+no-rate-of NoRate h = refl
+no-rate-of (Current unit r) h = false-true h
+
+module _ (r : Run) where
+  pub nothing : (a : Pending) → isSoundMode r (Stopped a) ≡ true → Nothing r
+  nothing a h =
+      let t = each (idleTests r) h in
+      record {
+        no-work = entering-of (r .place .work) (t .0);
+        no-trap = no-trap-of (r .trap) (t .1 .0);
+        no-loop = eqb-true (r .loops .count) 0 (t .1 .1 .0);
+        no-rate = no-rate-of (r .rate) (t .1 .1 .1 .0);
+      }
+
+  pub mode-test : (m : Mode) → ((a : Pending) → m ≡ Stopped a → Nothing r) → isSoundMode r m ≡ true
+  mode-test (Stopped a) n =
+      let k = n a refl in
+      all-of (idleTests r)
+      (ap isEntering (k .no-work), (ap isNoTrap (k .no-trap), (eq-eqb (r .loops .count) 0 (k .no-loop), (ap isNoRate (k .no-rate), tt))))
+  mode-test Paused n = refl
+  mode-test Running n = refl

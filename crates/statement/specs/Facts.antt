@@ -1,7 +1,7 @@
 -- When a state is sound, said without a test: the clauses of document 01's sentence, a fact each, in its order. That the test which the
--- calls run says just this is a theorem (proofs/Soundness.antt, sound-iff). Three clauses hold by the types of the state, and have no
--- field here: the store is 0 outside a visit, at most one of visit, timed pause and trigger wait is under way, and each has its own
--- data.   (01, Calls; Numbers; Volumes)
+-- calls run says just this is a theorem (proofs/Soundness.antt, sound-iff). Four clauses hold by the types of the state, and have no
+-- field here: the store is 0 outside a visit, at most one of visit, timed pause and trigger wait is under way, each has its own data,
+-- and an alarm is pending only in a stopped pump.   (01, Calls; Numbers; Volumes)
 use Prim.Native.Nat.{ℕ, _+_, _*_, _≤_, _<_}
 use mathlib.Core.Path.{_≡_}
 use mathlib.Core.Logic.{_⊎_}
@@ -12,24 +12,26 @@ use Rattle.decimal.specs.Read.{readOf}
 use Rattle.decimal.specs.declared.input.Reading.the-variants.{Number}
 use Rattle.drive.specs.Rates.{hourly}
 use Rattle.drive.specs.Syringe.{threshold, target}
-use Rattle.program.specs.Functions.{pauseTicks}
-use Rattle.program.specs.declared.functions.Function.{Function}
-use Rattle.program.specs.declared.functions.Function.the-variants as f
-use Rattle.program.specs.declared.phases.Phase.{Phase}
-use Rattle.loops.specs.Loops.{slot}
-use Rattle.dispense.specs.Rates.{ratio}
+use Rattle.words.specs.Functions.{pauseTicks}
+use Rattle.words.specs.declared.functions.Function.{Function}
+use Rattle.words.specs.declared.functions.Function.the-variants as f
+use Rattle.words.specs.declared.phases.Phase.{Phase}
+use Rattle.loops.specs.Loops.{noLoop, opened}
+use Rattle.loops.specs.declared.Loop.{Loop}
+use Rattle.dispense.specs.Rates.{thousandths}
 use Rattle.dispense.specs.declared.rates.Rate.{Rate}
 use Rattle.dispense.specs.declared.rates.Rate.the-variants.{NoRate, Current}
 use Rattle.dispense.specs.declared.visits.Visit.{Visit}
 use Rattle.line.specs.Lines.{text}
 use Rattle.line.specs.declared.lines.Line.{Line}
+use Rattle.engine.specs.declared.state.Core.{Core}
 use Rattle.engine.specs.declared.state.Mode.the-variants.{Stopped}
-use Rattle.engine.specs.declared.state.Pending.the-variants.{NoAlarm}
+use Rattle.engine.specs.declared.state.Pending.{Pending}
 use Rattle.engine.specs.declared.state.Run.{Run}
 use Rattle.engine.specs.declared.state.Trap.the-variants.{NoTrap, Armed}
 use Rattle.engine.specs.declared.state.Work.{Work}
 use Rattle.engine.specs.declared.state.Work.the-variants.{Entering, Visiting, Pausing, Waiting}
-use Rattle.pump.specs.Holder.{phaseCount, stopPhase, phaseAt}
+use Rattle.pump.specs.Holder.{phaseCount, stopPhase, hereOf}
 use Rattle.pump.specs.declared.holder.Pump.{Pump}
 
 abbrev pub Between : ℕ → ℕ → ℕ → Type 0
@@ -75,37 +77,45 @@ pub record LineFacts (l : Line) : Type 0 where
   pub overlong-full : l .overlong ≡ true → 40 ≤ l .len
   pub characters : (i : ℕ) → i < length (text l) → Character (getD (text l) i 0)
 
+-- ---- where things stand
+abbrev pub coreOf : Pump → Core
+coreOf p = p .device .core
+
+abbrev pub runOf : Pump → Run
+runOf p = p .device .core .run
+
+-- what is under way
+abbrev pub underWay : Pump → Work
+underWay p = runOf p .place .work
+
+-- the open loops, the oldest first
+abbrev pub loopsOf : Pump → List Loop
+loopsOf p = opened (runOf p .loops)
+
 -- every field is in the range given; the current phase is at most one past the last
 pub record Ranges (p : Pump) : Type 0 where
-  pub diameter : Between 100 (p .core .diameter) 50_000
-  pub chosen : Between 1 (p .core .chosen) (phaseCount p)
-  pub infused : p .core .totals .infused ≤ 1_000_000_000_000_000_000
-  pub withdrawn : p .core .totals .withdrawn ≤ 1_000_000_000_000_000_000
-  pub current : Between 1 (p .core .run .place .current) (phaseCount p + 1)
-  pub rate : ratio (p .core .run .rate) ≤ 9_999_000
-  pub trap : (n : ℕ) → p .core .run .trap ≡ Armed n → Between 1 n (phaseCount p)
-  pub begun : (i : ℕ) → i < p .core .run .loops .count → slot (p .core .run .loops) i .begun ≤ phaseCount p
-  pub line : LineFacts (p .line)
-
--- what is under way, and the phase that it stands in
-abbrev pub underWay : Pump → Work
-underWay p = p .core .run .place .work
-
-abbrev pub hereOf : Pump → Phase
-hereOf p = phaseAt (p .phases) (p .core .run .place .current)
+  pub diameter : Between 100 (coreOf p .syringe .diameter) 50_000
+  pub chosen : Between 1 (coreOf p .chosen) (phaseCount p)
+  pub infused : coreOf p .ledger .totals .infused ≤ 1_000_000_000_000_000_000
+  pub withdrawn : coreOf p .ledger .totals .withdrawn ≤ 1_000_000_000_000_000_000
+  pub current : Between 1 (runOf p .place .current) (phaseCount p + 1)
+  pub rate : thousandths (runOf p .rate) ≤ 9_999_000
+  pub trap : (n : ℕ) → runOf p .trap ≡ Armed n → Between 1 n (phaseCount p)
+  pub begun : (i : ℕ) → i < length (loopsOf p) → getD (loopsOf p) i noLoop .begun ≤ phaseCount p
+  pub line : LineFacts (p .device .line)
 
 -- above 0, and at most four thresholds
 abbrev pub Usable : ℕ → Rate → Type 0
 Usable d NoRate = ⊥
 Usable d (Current unit r) = (0 < r) × (hourly r unit ≤ 4 * threshold d)
 
-pub record VisitFacts (p : Pump) (v : Visit) : Type 0 where
-  pub store-below : v .store < threshold (p .core .diameter)
-  pub aimed : v .target ≡ target (p .core .diameter) (hereOf p .volume)
-  pub given-below : (hereOf p .volume ≡ 0 → ⊥) → v .given < v .target
-  pub none-counted : hereOf p .volume ≡ 0 → v .given ≡ 0
-  pub usable : Usable (p .core .diameter) (p .core .run .rate)
-  pub in-rate-phase : (hereOf p .function ≡ f.Rat) ⊎ (hereOf p .function ≡ f.Inc) ⊎ (hereOf p .function ≡ f.Dec)
+pub record VisitFacts (d : ℕ) (here : Phase) (rate : Rate) (v : Visit) : Type 0 where
+  pub store-below : v .store < threshold d
+  pub aimed : v .target ≡ target d (here .volume)
+  pub given-below : (here .volume ≡ 0 → ⊥) → v .given < v .target
+  pub none-counted : here .volume ≡ 0 → v .given ≡ 0
+  pub usable : Usable d rate
+  pub in-rate-phase : (here .function ≡ f.Rat) ⊎ (here .function ≡ f.Inc) ⊎ (here .function ≡ f.Dec)
 
 -- none of the three, and no trap, loop or current rate
 pub record Nothing (r : Run) : Type 0 where
@@ -117,23 +127,18 @@ pub record Nothing (r : Run) : Type 0 where
 pub record Sound (p : Pump) : Type 0 where
   -- every field is in its range, and stored numbers are writable
   pub ranges : Ranges p
-  pub diameter-writable : Writable (p .core .diameter)
+  pub diameter-writable : Writable (coreOf p .syringe .diameter)
   pub phases : (i : ℕ) → i < phaseCount p → PhaseFacts (phaseCount p) (getD (p .phases) i stopPhase)
   -- open loops are at most three, begun by different phases
-  pub three-loops : p .core .run .loops .count ≤ 3
+  pub three-loops : runOf p .loops .count ≤ 3
   pub different-phases :
-      (i j : ℕ)
-      → i < j
-      → j < p .core .run .loops .count
-      → slot (p .core .run .loops) i .begun ≡ slot (p .core .run .loops) j .begun
-      → ⊥
+      (i j : ℕ) → i < j → j < length (loopsOf p) → getD (loopsOf p) i noLoop .begun ≡ getD (loopsOf p) j noLoop .begun → ⊥
   -- a visit's store, target, steps given, rate and phase
-  pub visit : (v : Visit) → underWay p ≡ Visiting v → VisitFacts p v
+  pub visit : (v : Visit) → underWay p ≡ Visiting v → VisitFacts (coreOf p .syringe .diameter) (hereOf p) (runOf p .rate) v
   -- an open loop has at most 98 passes
-  pub passes-few : (i : ℕ) → i < p .core .run .loops .count → slot (p .core .run .loops) i .passes ≤ 98
+  pub passes-few : (i : ℕ) → i < length (loopsOf p) → getD (loopsOf p) i noLoop .passes ≤ 98
   -- a timed pause has 1 to the full number of ticks of its PAS phase left; a trigger wait stands in PAS 0
   pub pause : (left : ℕ) → underWay p ≡ Pausing left → Between 1 left (pauseTicks (hereOf p .function))
   pub wait : underWay p ≡ Waiting → hereOf p .function ≡ f.Pas 0
-  -- a stopped pump has nothing under way; an alarm is pending only in a stopped pump
-  pub stopped : p .core .run .mode ≡ Stopped → Nothing (p .core .run)
-  pub alarm : (p .core .run .alarm ≡ NoAlarm → ⊥) → p .core .run .mode ≡ Stopped
+  -- a stopped pump has nothing under way
+  pub stopped : (alarm : Pending) → runOf p .mode ≡ Stopped alarm → Nothing (runOf p)

@@ -15,14 +15,8 @@ Inv-loop s now₀ from₀ out₀ now from out = Plays s now₀ now from out
 abbrev μ-loop : tie.MeasureT-loop
 μ-loop s now₀ from₀ out₀ now from out = length s - from
 
-large-buffer-requires : tie.Need-large-buffer-requires Inv-loop μ-loop
-large-buffer-requires c κs = search needs
-
 loop-holds : tie.Need-loop-holds Inv-loop μ-loop
 loop-holds c = plays-none _ _ _ (omega arith) (omega arith)
-
-sub-feed : tie.Need-sub-feed Inv-loop μ-loop
-sub-feed c = search needs
 
 part-feed-start : tie.Need-part-feed-start Inv-loop μ-loop
 part-feed-start c = omega arith
@@ -30,22 +24,10 @@ part-feed-start c = omega arith
 part-feed-end : tie.Need-part-feed-end Inv-loop μ-loop
 part-feed-end c = omega arith
 
-slice-aggregate-feed : tie.Need-slice-aggregate-feed Inv-loop μ-loop
-slice-aggregate-feed c = search needs
-
-feed-requires : tie.Need-feed-requires Inv-loop μ-loop
-feed-requires c κs = search needs
-
-array-share-prefix-out : tie.Need-array-share-prefix-out Inv-loop μ-loop
-array-share-prefix-out c = search needs
-
 slice-aggregate-write-all : tie.Need-slice-aggregate-write-all Inv-loop μ-loop
 slice-aggregate-write-all c =
     let w = c .before .before .feed .ensures .wrote in
     simp length-take (omega (arith, wrote-length w, w .fits))
-
-write-all-requires : tie.Need-write-all-requires Inv-loop μ-loop
-write-all-requires c κs = search needs
 
 add-from : tie.Need-add-from Inv-loop μ-loop
 add-from c =
@@ -74,16 +56,16 @@ play-spec =
     (tie.spec
     Inv-loop
     μ-loop
-    large-buffer-requires
+    (λ c κs. tt)
     loop-holds
-    sub-feed
+    (λ c. search needs)
     part-feed-start
     part-feed-end
-    slice-aggregate-feed
-    feed-requires
-    array-share-prefix-out
+    (λ c. search needs)
+    (λ c κs. search needs)
+    (λ c. search needs)
     slice-aggregate-write-all
-    write-all-requires
+    (λ c κs. tt)
     add-from
     loop-less
     loop-again

@@ -9,32 +9,20 @@ use Rattle.many.proofs.run.Statement.{statement}
 use Rattle.many.proofs.run.Tie as tie
 
 abbrev Inv-loop : tie.InvT-loop
-Inv-loop pump n core₀ infused₀ withdrawn₀ i₀ core infused withdrawn i = (i ≤ n) × Ran pump core infused withdrawn i
+Inv-loop pump n device core₀ infused₀ withdrawn₀ i₀ core infused withdrawn i = (i ≤ n) × Ran pump core infused withdrawn i
 
 abbrev μ-loop : tie.MeasureT-loop
-μ-loop pump n core₀ infused₀ withdrawn₀ i₀ core infused withdrawn i = n - i
+μ-loop pump n device core₀ infused₀ withdrawn₀ i₀ core infused withdrawn i = n - i
 
 loop-holds : tie.Need-loop-holds Inv-loop μ-loop
-loop-holds c = (omega arith, ran-none (c .before .args .pump) (c .before .pre))
-
-phase-at-requires : tie.Need-phase-at-requires Inv-loop μ-loop
-phase-at-requires c κs = search needs
+loop-holds c = (omega arith, ran-none (c .before .before .args .pump) (c .before .before .pre))
 
 tick-requires : tie.Need-tick-requires Inv-loop μ-loop
 tick-requires c κs =
-    let k = c .before .before .before .before in
+    let k = c .before .before .before .before .before in
     let turn = c .before .before .loop in
     let full = simp length-map at (k .good .0 .1 .1 .0 .1 .0 .1) in
     ready (k .args .pump) full (omega arith) (turn .core) _ _ _ (turn .inv .1) _ (c .phase-at .ensures)
-
-cast-infused : tie.Need-cast-infused Inv-loop μ-loop
-cast-infused c = search needs
-
-add-infused : tie.Need-add-infused Inv-loop μ-loop
-add-infused c = search needs
-
-cast-withdrawn : tie.Need-cast-withdrawn Inv-loop μ-loop
-cast-withdrawn c = search needs
 
 add-withdrawn : tie.Need-add-withdrawn Inv-loop μ-loop
 add-withdrawn c =
@@ -57,7 +45,7 @@ loop-less c =
 
 loop-again : tie.Need-loop-again Inv-loop μ-loop
 loop-again c =
-    let k = c .before .before .before .before .before .before .before .before in
+    let k = c .before .before .before .before .before .before .before .before .before in
     let w = c .before .before .before .before .before in
     let turn = c .before .before .before .before .before .before .loop in
     let m = c .before .before .before .tick in
@@ -67,14 +55,11 @@ loop-again c =
           (m .result) (m .ensures) (omega arith) (omega arith),
     )
 
-with-core-requires : tie.Need-with-core-requires Inv-loop μ-loop
-with-core-requires c κs = search needs
-
 returns : tie.Need-returns Inv-loop μ-loop
 returns c =
-    let k = c .before .before .before .before in
-    let turn = c .before .before .loop in
-    rw (c .with-core .ensures) (ran-all (k .args .pump) (turn .core) _ _ (turn .i) (k .args .n) (turn .inv .1) (turn .inv .0) (omega arith))
+    let k = c .before .before .before .before .before .before in
+    let turn = c .before .before .before .loop in
+    rw (c .with-device .ensures, c .before .with-core .ensures) (ran-all (k .args .pump) (turn .core) _ _ (turn .i) (k .args .n) (turn .inv .1) (turn .inv .0) (omega arith))
 
 pub run-spec : {M : Type 1} → statement M
 run-spec =
@@ -83,14 +68,15 @@ run-spec =
     Inv-loop
     μ-loop
     loop-holds
-    phase-at-requires
+    (λ c κs. tt)
     tick-requires
-    cast-infused
-    add-infused
-    cast-withdrawn
+    (λ c. search needs)
+    (λ c. search needs)
+    (λ c. search needs)
     add-withdrawn
     add-i
     loop-less
     loop-again
-    with-core-requires
+    (λ c κs. tt)
+    (λ c κs. tt)
     returns)

@@ -3,18 +3,12 @@
 use native.Mathlib.Omega.{arith}
 use borrow.Author.Needs.{needs}
 use Rattle.base.proofs.Writing.{wrote-then}
-use Rattle.answer.proofs.Lengths.{name-length}
+use Rattle.answer.proofs.Names.{name-length}
 use Rattle.answer.proofs.writing.function.Statement.{statement}
 use Rattle.answer.proofs.writing.function.Tie as tie
 
-function-name-requires : tie.Need-function-name-requires
-function-name-requires c κs = search needs
-
 function-datum-requires : tie.Need-function-datum-requires
 function-datum-requires c κs = omega (arith, name-length (c .before .before .before .before .before .before .args .f))
-
-same-length : tie.Need-same-length
-same-length c = search needs
 
 returns : tie.Need-returns
 returns c =
@@ -22,4 +16,4 @@ returns c =
 
 pub function-spec : {M : Type 1} → statement M
 function-spec =
-    tie.close (tie.spec function-name-requires function-datum-requires same-length returns)
+    tie.close (tie.spec (λ c κs. search needs) function-datum-requires (λ c. search needs) returns)

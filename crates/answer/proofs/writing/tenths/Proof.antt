@@ -5,22 +5,10 @@ use Rattle.base.proofs.Writing.{wrote-as}
 use Rattle.answer.proofs.writing.tenths.Statement.{statement}
 use Rattle.answer.proofs.writing.tenths.Tie as tie
 
-print-tenths-requires : tie.Need-print-tenths-requires
-print-tenths-requires c κs = search needs
-
-slice-aggregate-copy : tie.Need-slice-aggregate-copy
-slice-aggregate-copy c = search needs
-
-copy-requires : tie.Need-copy-requires
-copy-requires c κs = search needs
-
-same-length : tie.Need-same-length
-same-length c = search needs
-
 returns : tie.Need-returns
 returns c = wrote-as (c .before .before .copy .ensures) (c .before .before .before .before .before .print-tenths .ensures)
 
 pub tenths-spec : {M : Type 1} → statement M
 tenths-spec =
     tie.close
-    (tie.spec print-tenths-requires slice-aggregate-copy copy-requires same-length returns)
+    (tie.spec (λ c κs. tt) (λ c. search needs) (λ c κs. search needs) (λ c. search needs) returns)

@@ -8,12 +8,6 @@ use Rattle.decimal.proofs.Theorems.{printed-length}
 use Rattle.answer.proofs.writing.totals.Statement.{statement}
 use Rattle.answer.proofs.writing.totals.Tie as tie
 
-put-requires : tie.Need-put-requires
-put-requires c κs = search needs
-
-number-requires : tie.Need-number-requires
-number-requires c κs = search needs
-
 put-requires-2 : tie.Need-put-requires-2
 put-requires-2 c κs = omega (arith, simp printed-length at (c .before .before .before .number .ensures .ends))
 
@@ -30,9 +24,6 @@ volume-unit-requires c κs =
       simp printed-length at (infused .number .ensures .ends),
       simp printed-length at (withdrawn .number2 .ensures .ends),
     )
-
-same-length : tie.Need-same-length
-same-length c = search needs
 
 returns : tie.Need-returns
 returns c =
@@ -52,10 +43,10 @@ pub totals-spec : {M : Type 1} → statement M
 totals-spec =
     tie.close
     (tie.spec
-    put-requires
-    number-requires
+    (λ c κs. search needs)
+    (λ c κs. search needs)
     put-requires-2
     number-requires-2
     volume-unit-requires
-    same-length
+    (λ c. search needs)
     returns)

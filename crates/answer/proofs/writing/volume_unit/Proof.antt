@@ -5,32 +5,8 @@ use Rattle.base.proofs.Writing.{wrote-as}
 use Rattle.answer.proofs.writing.volume_unit.Statement.{statement}
 use Rattle.answer.proofs.writing.volume_unit.Tie as tie
 
-enum-told : tie.Need-enum-told
-enum-told c = search needs
-
-slice-aggregate-copy : tie.Need-slice-aggregate-copy
-slice-aggregate-copy c = search needs
-
-copy-requires : tie.Need-copy-requires
-copy-requires c κs = search needs
-
-enum-told-2 : tie.Need-enum-told-2
-enum-told-2 c = search needs
-
-slice-aggregate-copy-2 : tie.Need-slice-aggregate-copy-2
-slice-aggregate-copy-2 c = search needs
-
-copy-requires-2 : tie.Need-copy-requires-2
-copy-requires-2 c κs = search needs
-
-same-length : tie.Need-same-length
-same-length c = search needs
-
 returns : tie.Need-returns
 returns c = wrote-as (c .before .before .copy .ensures) (rw (c .before .before .before .before .before .enum-told .given .1))
-
-same-length-2 : tie.Need-same-length-2
-same-length-2 c = search needs
 
 returns-2 : tie.Need-returns-2
 returns-2 c = wrote-as (c .before .before .copy2 .ensures) (rw (c .before .before .before .before .before .enum-told2 .given .1))
@@ -39,13 +15,13 @@ pub volume-unit-spec : {M : Type 1} → statement M
 volume-unit-spec =
     tie.close
     (tie.spec
-    enum-told
-    slice-aggregate-copy
-    copy-requires
-    enum-told-2
-    slice-aggregate-copy-2
-    copy-requires-2
-    same-length
+    (λ c. search needs)
+    (λ c. search needs)
+    (λ c κs. search needs)
+    (λ c. search needs)
+    (λ c. search needs)
+    (λ c κs. search needs)
+    (λ c. search needs)
     returns
-    same-length-2
+    (λ c. search needs)
     returns-2)

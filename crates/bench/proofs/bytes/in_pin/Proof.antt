@@ -1,15 +1,8 @@
 -- `in_pin` meets its contract: a digit of a pin, or the blank behind it.
 -- Assumes nothing.
 use Rattle.bench.proofs.Letters.{bytes}
-use borrow.Author.Needs.{needs}
 use Rattle.bench.proofs.bytes.in_pin.Statement.{statement}
 use Rattle.bench.proofs.bytes.in_pin.Tie as tie
-
-pin-ended-requires : tie.Need-pin-ended-requires
-pin-ended-requires c κs = search needs
-
-grown-requires : tie.Need-grown-requires
-grown-requires c κs = search needs
 
 returns : tie.Need-returns
 returns c = search bytes
@@ -25,4 +18,4 @@ returns-4 c = search bytes
 
 pub in-pin-spec : {M : Type 1} → statement M
 in-pin-spec =
-    tie.close (tie.spec pin-ended-requires grown-requires returns returns-2 returns-3 returns-4)
+    tie.close (tie.spec (λ c κs. tt) (λ c κs. tt) returns returns-2 returns-3 returns-4)

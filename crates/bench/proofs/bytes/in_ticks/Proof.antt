@@ -1,12 +1,8 @@
 -- `in_ticks` meets its contract: a digit of a number of ticks.
 -- Assumes nothing.
 use Rattle.bench.proofs.Letters.{bytes}
-use borrow.Author.Needs.{needs}
 use Rattle.bench.proofs.bytes.in_ticks.Statement.{statement}
 use Rattle.bench.proofs.bytes.in_ticks.Tie as tie
-
-grown-requires : tie.Need-grown-requires
-grown-requires c κs = search needs
 
 returns : tie.Need-returns
 returns c = search bytes
@@ -18,4 +14,4 @@ returns-3 : tie.Need-returns-3
 returns-3 c = search bytes
 
 pub in-ticks-spec : {M : Type 1} → statement M
-in-ticks-spec = tie.close (tie.spec grown-requires returns returns-2 returns-3)
+in-ticks-spec = tie.close (tie.spec (λ c κs. tt) returns returns-2 returns-3)

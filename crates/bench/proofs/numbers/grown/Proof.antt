@@ -8,14 +8,8 @@ use Rattle.bench.proofs.numbers.grown.Tie as tie
 returns : tie.Need-returns
 returns c = search growing
 
-mul-result : tie.Need-mul-result
-mul-result c = search needs
-
-add-result : tie.Need-add-result
-add-result c = search needs
-
 returns-2 : tie.Need-returns-2
 returns-2 c = search growing
 
 pub grown-spec : {M : Type 1} → statement M
-grown-spec = tie.close (tie.spec returns mul-result add-result returns-2)
+grown-spec = tie.close (tie.spec returns (λ c. search needs) (λ c. search needs) returns-2)

@@ -8,24 +8,12 @@ use borrow.Author.Needs.{needs}
 use Rattle.bench.proofs.printing.count.Statement.{statement}
 use Rattle.bench.proofs.printing.count.Tie as tie
 
-decimal-requires : tie.Need-decimal-requires
-decimal-requires c κs = search needs
-
-array-share-prefix-text : tie.Need-array-share-prefix-text
-array-share-prefix-text c = search needs
-
-slice-aggregate-copy : tie.Need-slice-aggregate-copy
-slice-aggregate-copy c = search needs
-
 copy-requires : tie.Need-copy-requires
 copy-requires c κs =
     let decimal-at = c .before .before in
     let start = decimal-at .before .before .before in
     let d = decimal-at .decimal in
     simp length-take (omega (arith, digits-few (start .args .n) (d .result) (omega arith) (d .ensures .1 .0)))
-
-same-length : tie.Need-same-length
-same-length c = search needs
 
 returns : tie.Need-returns
 returns c =
@@ -39,9 +27,9 @@ pub count-spec : {M : Type 1} → statement M
 count-spec =
     tie.close
     (tie.spec
-    decimal-requires
-    array-share-prefix-text
-    slice-aggregate-copy
+    (λ c κs. tt)
+    (λ c. search needs)
+    (λ c. search needs)
     copy-requires
-    same-length
+    (λ c. search needs)
     returns)

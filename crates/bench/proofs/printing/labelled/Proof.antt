@@ -5,17 +5,8 @@ use borrow.Author.Needs.{needs}
 use Rattle.bench.proofs.printing.labelled.Statement.{statement}
 use Rattle.bench.proofs.printing.labelled.Tie as tie
 
-copy-requires : tie.Need-copy-requires
-copy-requires c κs = search needs
-
-count-requires : tie.Need-count-requires
-count-requires c κs = search needs
-
-same-length : tie.Need-same-length
-same-length c = search needs
-
 returns : tie.Need-returns
 returns c = search (printing, needs)
 
 pub labelled-spec : {M : Type 1} → statement M
-labelled-spec = tie.close (tie.spec copy-requires count-requires same-length returns)
+labelled-spec = tie.close (tie.spec (λ c κs. search needs) (λ c κs. search needs) (λ c. search needs) returns)

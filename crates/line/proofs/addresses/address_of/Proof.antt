@@ -7,21 +7,9 @@ use borrow.Author.Needs.{needs}
 use Rattle.line.proofs.addresses.address_of.Statement.{statement}
 use Rattle.line.proofs.addresses.address_of.Tie as tie
 
-width-requires : tie.Need-width-requires
-width-requires c κs = search needs
-
 slice-aggregate-read-two : tie.Need-slice-aggregate-read-two
 slice-aggregate-read-two c =
     simp length-take (omega (arith, width-within (c .before .before .before .args .s .now), c .before .width .ensures))
-
-read-two-requires : tie.Need-read-two-requires
-read-two-requires c κs = search needs
-
-enum-known-a : tie.Need-enum-known-a
-enum-known-a c = search needs
-
-enum-told : tie.Need-enum-told
-enum-told c = search needs
 
 returns : tie.Need-returns
 returns c = search addresses
@@ -33,10 +21,10 @@ pub address-of-spec : {M : Type 1} → statement M
 address-of-spec =
     tie.close
     (tie.spec
-    width-requires
+    (λ c κs. tt)
     slice-aggregate-read-two
-    read-two-requires
-    enum-known-a
-    enum-told
+    (λ c κs. tt)
+    (λ c. search needs)
+    (λ c. search needs)
     returns
     returns-2)

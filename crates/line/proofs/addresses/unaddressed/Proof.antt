@@ -7,17 +7,11 @@ use borrow.Author.Needs.{needs}
 use Rattle.line.proofs.addresses.unaddressed.Statement.{statement}
 use Rattle.line.proofs.addresses.unaddressed.Tie as tie
 
-width-requires : tie.Need-width-requires
-width-requires c κs = search needs
-
 sub-result : tie.Need-sub-result
 sub-result c = rw (c .width .ensures) (width-within (c .before .before .args .s .now))
 
 part-result-start : tie.Need-part-result-start
 part-result-start c = rw (c .width .ensures) (width-within (c .before .before .args .s .now))
-
-part-result-end : tie.Need-part-result-end
-part-result-end c = search needs
 
 returns : tie.Need-returns
 unfolding behindAddress
@@ -25,4 +19,4 @@ returns c = rw (c .before .width .ensures) (let s = c .before .before .before .a
 
 pub unaddressed-spec : {M : Type 1} → statement M
 unaddressed-spec =
-    tie.close (tie.spec width-requires sub-result part-result-start part-result-end returns)
+    tie.close (tie.spec (λ c κs. tt) sub-result part-result-start (λ c. search needs) returns)

@@ -1,21 +1,8 @@
 -- `width` meets its contract: the first two letters tell the width.
 -- Assumes nothing.
 use Rattle.line.proofs.Addressing.{widths}
-use borrow.Author.Needs.{needs}
 use Rattle.line.proofs.addresses.width.Statement.{statement}
 use Rattle.line.proofs.addresses.width.Tie as tie
-
-letter-requires : tie.Need-letter-requires
-letter-requires c κs = search needs
-
-is-digit-requires : tie.Need-is-digit-requires
-is-digit-requires c κs = search needs
-
-letter-requires-2 : tie.Need-letter-requires-2
-letter-requires-2 c κs = search needs
-
-is-digit-requires-2 : tie.Need-is-digit-requires-2
-is-digit-requires-2 c κs = search needs
 
 returns : tie.Need-returns
 returns c = search widths
@@ -30,10 +17,10 @@ pub width-spec : {M : Type 1} → statement M
 width-spec =
     tie.close
     (tie.spec
-    letter-requires
-    is-digit-requires
-    letter-requires-2
-    is-digit-requires-2
+    (λ c κs. tt)
+    (λ c κs. tt)
+    (λ c κs. tt)
+    (λ c κs. tt)
     returns
     returns-2
     returns-3)

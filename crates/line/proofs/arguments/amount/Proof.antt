@@ -7,15 +7,6 @@ use borrow.Author.Needs.{needs}
 use Rattle.line.proofs.arguments.amount.Statement.{statement}
 use Rattle.line.proofs.arguments.amount.Tie as tie
 
-units-at-end-requires : tie.Need-units-at-end-requires
-units-at-end-requires c κs = search needs
-
-enum-told : tie.Need-enum-told
-enum-told c = search needs
-
-enum-told-2 : tie.Need-enum-told-2
-enum-told-2 c = search needs
-
 sub-n : tie.Need-sub-n
 sub-n c = search units-within
 
@@ -32,9 +23,9 @@ pub amount-spec : {M : Type 1} → statement M
 amount-spec =
     tie.close
     (tie.spec
-    units-at-end-requires
-    enum-told
-    enum-told-2
+    (λ c κs. tt)
+    (λ c. search needs)
+    (λ c. search needs)
     sub-n
     slice-aggregate-result
     returns

@@ -10,18 +10,6 @@ returns : tie.Need-returns
 unfolding directionAsked
 returns c = search asks
 
-turn-of-requires : tie.Need-turn-of-requires
-turn-of-requires c κs = search needs
-
-enum-known-d : tie.Need-enum-known-d
-enum-known-d c = search needs
-
-enum-told : tie.Need-enum-told
-enum-told c = search needs
-
-enum-told-2 : tie.Need-enum-told-2
-enum-told-2 c = search needs
-
 returns-2 : tie.Need-returns-2
 returns-2 c = search directions
 
@@ -36,10 +24,10 @@ direction-asked-spec =
     tie.close
     (tie.spec
     returns
-    turn-of-requires
-    enum-known-d
-    enum-told
-    enum-told-2
+    (λ c κs. tt)
+    (λ c. search needs)
+    (λ c. search needs)
+    (λ c. search needs)
     returns-2
     returns-3
     returns-4)

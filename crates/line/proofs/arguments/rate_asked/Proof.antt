@@ -10,21 +10,6 @@ returns : tie.Need-returns
 unfolding rateAsked
 returns c = search asks
 
-units-at-end-requires : tie.Need-units-at-end-requires
-units-at-end-requires c κs = search needs
-
-amount-requires : tie.Need-amount-requires
-amount-requires c κs = search needs
-
-read-requires : tie.Need-read-requires
-read-requires c κs = search needs
-
-enum-known-x : tie.Need-enum-known-x
-enum-known-x c = search needs
-
-enum-told : tie.Need-enum-told
-enum-told c = search needs
-
 returns-2 : tie.Need-returns-2
 returns-2 c = search sets-rate
 
@@ -36,10 +21,10 @@ rate-asked-spec =
     tie.close
     (tie.spec
     returns
-    units-at-end-requires
-    amount-requires
-    read-requires
-    enum-known-x
-    enum-told
+    (λ c κs. tt)
+    (λ c κs. tt)
+    (λ c κs. tt)
+    (λ c. search needs)
+    (λ c. search needs)
     returns-2
     returns-3)

@@ -2,7 +2,7 @@
 -- Assumes nothing.
 use Rattle.line.proofs.Asking.{asks, sets-digits, no-digits}
 use Rattle.line.specs.Arguments.{runAsked}
-use Rattle.line.specs.declared.commands.Command.the-variants as command
+use Rattle.words.specs.declared.commands.Command.the-variants as command
 use borrow.Author.Needs.{needs}
 use Rattle.line.proofs.arguments.run_asked.Statement.{statement}
 use Rattle.line.proofs.arguments.run_asked.Tie as tie
@@ -10,15 +10,6 @@ use Rattle.line.proofs.arguments.run_asked.Tie as tie
 returns : tie.Need-returns
 unfolding runAsked
 returns c = search asks
-
-read-two-requires : tie.Need-read-two-requires
-read-two-requires c κs = search needs
-
-enum-known-n : tie.Need-enum-known-n
-enum-known-n c = search needs
-
-enum-told : tie.Need-enum-told
-enum-told c = search needs
 
 returns-2 : tie.Need-returns-2
 unfolding runAsked
@@ -30,4 +21,4 @@ returns-3 c = search (no-digits command.Run command.RunFrom)
 
 pub run-asked-spec : {M : Type 1} → statement M
 run-asked-spec =
-    tie.close (tie.spec returns read-two-requires enum-known-n enum-told returns-2 returns-3)
+    tie.close (tie.spec returns (λ c κs. tt) (λ c. search needs) (λ c. search needs) returns-2 returns-3)

@@ -2,7 +2,7 @@
 -- Assumes nothing.
 use Rattle.line.proofs.Asking.{asks, sets-number, no-number}
 use Rattle.line.specs.Arguments.{volumeAsked}
-use Rattle.line.specs.declared.commands.Command.the-variants as command
+use Rattle.words.specs.declared.commands.Command.the-variants as command
 use borrow.Author.Needs.{needs}
 use Rattle.line.proofs.arguments.volume_asked.Statement.{statement}
 use Rattle.line.proofs.arguments.volume_asked.Tie as tie
@@ -10,15 +10,6 @@ use Rattle.line.proofs.arguments.volume_asked.Tie as tie
 returns : tie.Need-returns
 unfolding volumeAsked
 returns c = search asks
-
-read-requires : tie.Need-read-requires
-read-requires c κs = search needs
-
-enum-known-x : tie.Need-enum-known-x
-enum-known-x c = search needs
-
-enum-told : tie.Need-enum-told
-enum-told c = search needs
 
 returns-2 : tie.Need-returns-2
 unfolding volumeAsked
@@ -30,4 +21,4 @@ returns-3 c = search (no-number command.AskVolume command.SetVolume)
 
 pub volume-asked-spec : {M : Type 1} → statement M
 volume-asked-spec =
-    tie.close (tie.spec returns read-requires enum-known-x enum-told returns-2 returns-3)
+    tie.close (tie.spec returns (λ c κs. tt) (λ c. search needs) (λ c. search needs) returns-2 returns-3)

@@ -5,9 +5,6 @@ use borrow.Author.Needs.{needs}
 use Rattle.line.proofs.arriving.arrival_of.Statement.{statement}
 use Rattle.line.proofs.arriving.arrival_of.Tie as tie
 
-sub-t4 : tie.Need-sub-t4
-sub-t4 c = search needs
-
 returns : tie.Need-returns
 returns c = search arrivals
 
@@ -28,4 +25,4 @@ returns-6 c = search arrivals
 
 pub arrival-of-spec : {M : Type 1} → statement M
 arrival-of-spec =
-    tie.close (tie.spec sub-t4 returns returns-2 returns-3 returns-4 returns-5 returns-6)
+    tie.close (tie.spec (λ c. search needs) returns returns-2 returns-3 returns-4 returns-5 returns-6)

@@ -9,81 +9,6 @@ use Rattle.line.proofs.commands.command_of.Tie as tie
 returns : tie.Need-returns
 returns c = search asks-status
 
-argument-of-requires : tie.Need-argument-of-requires
-argument-of-requires c κs = search needs
-
-name-of-requires : tie.Need-name-of-requires
-name-of-requires c κs = search needs
-
-enum-told : tie.Need-enum-told
-enum-told c = search needs
-
-diameter-asked-requires : tie.Need-diameter-asked-requires
-diameter-asked-requires c κs = search needs
-
-enum-told-2 : tie.Need-enum-told-2
-enum-told-2 c = search needs
-
-rate-asked-requires : tie.Need-rate-asked-requires
-rate-asked-requires c κs = search needs
-
-enum-told-3 : tie.Need-enum-told-3
-enum-told-3 c = search needs
-
-volume-asked-requires : tie.Need-volume-asked-requires
-volume-asked-requires c κs = search needs
-
-enum-told-4 : tie.Need-enum-told-4
-enum-told-4 c = search needs
-
-direction-asked-requires : tie.Need-direction-asked-requires
-direction-asked-requires c κs = search needs
-
-enum-told-5 : tie.Need-enum-told-5
-enum-told-5 c = search needs
-
-phase-asked-requires : tie.Need-phase-asked-requires
-phase-asked-requires c κs = search needs
-
-enum-told-6 : tie.Need-enum-told-6
-enum-told-6 c = search needs
-
-function-asked-requires : tie.Need-function-asked-requires
-function-asked-requires c κs = search needs
-
-enum-told-7 : tie.Need-enum-told-7
-enum-told-7 c = search needs
-
-run-asked-requires : tie.Need-run-asked-requires
-run-asked-requires c κs = search needs
-
-enum-told-8 : tie.Need-enum-told-8
-enum-told-8 c = search needs
-
-unless-more-requires : tie.Need-unless-more-requires
-unless-more-requires c κs = search needs
-
-enum-told-9 : tie.Need-enum-told-9
-enum-told-9 c = search needs
-
-unless-more-requires-2 : tie.Need-unless-more-requires-2
-unless-more-requires-2 c κs = search needs
-
-enum-told-10 : tie.Need-enum-told-10
-enum-told-10 c = search needs
-
-clear-asked-requires : tie.Need-clear-asked-requires
-clear-asked-requires c κs = search needs
-
-enum-told-11 : tie.Need-enum-told-11
-enum-told-11 c = search needs
-
-unless-more-requires-3 : tie.Need-unless-more-requires-3
-unless-more-requires-3 c κs = search needs
-
-enum-told-12 : tie.Need-enum-told-12
-enum-told-12 c = search needs
-
 returns-2 : tie.Need-returns-2
 returns-2 c = search (by-name n.Dia)
 
@@ -125,31 +50,31 @@ command-of-spec =
     tie.close
     (tie.spec
     returns
-    argument-of-requires
-    name-of-requires
-    enum-told
-    diameter-asked-requires
-    enum-told-2
-    rate-asked-requires
-    enum-told-3
-    volume-asked-requires
-    enum-told-4
-    direction-asked-requires
-    enum-told-5
-    phase-asked-requires
-    enum-told-6
-    function-asked-requires
-    enum-told-7
-    run-asked-requires
-    enum-told-8
-    unless-more-requires
-    enum-told-9
-    unless-more-requires-2
-    enum-told-10
-    clear-asked-requires
-    enum-told-11
-    unless-more-requires-3
-    enum-told-12
+    (λ c κs. tt)
+    (λ c κs. tt)
+    (λ c. search needs)
+    (λ c κs. tt)
+    (λ c. search needs)
+    (λ c κs. tt)
+    (λ c. search needs)
+    (λ c κs. tt)
+    (λ c. search needs)
+    (λ c κs. tt)
+    (λ c. search needs)
+    (λ c κs. tt)
+    (λ c. search needs)
+    (λ c κs. tt)
+    (λ c. search needs)
+    (λ c κs. tt)
+    (λ c. search needs)
+    (λ c κs. tt)
+    (λ c. search needs)
+    (λ c κs. tt)
+    (λ c. search needs)
+    (λ c κs. tt)
+    (λ c. search needs)
+    (λ c κs. tt)
+    (λ c. search needs)
     returns-2
     returns-3
     returns-4

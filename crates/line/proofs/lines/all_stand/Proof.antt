@@ -4,7 +4,6 @@ use Rattle.line.proofs.Collecting.{Standing, stands}
 use native.Mathlib.Omega.{arith}
 use Prim.Native.Nat.{_-_}
 use lib.ListN.{length}
-use borrow.Author.Needs.{needs}
 use Rattle.line.proofs.lines.all_stand.Statement.{statement}
 use Rattle.line.proofs.lines.all_stand.Tie as tie
 
@@ -19,9 +18,6 @@ loop-holds c = search stands
 
 shared-slice-read-can-stand : tie.Need-shared-slice-read-can-stand Inv-loop μ-loop
 shared-slice-read-can-stand c = omega arith
-
-can-stand-requires : tie.Need-can-stand-requires Inv-loop μ-loop
-can-stand-requires c κs = search needs
 
 add-i : tie.Need-add-i Inv-loop μ-loop
 add-i c = omega arith
@@ -46,7 +42,7 @@ all-stand-spec =
     μ-loop
     loop-holds
     shared-slice-read-can-stand
-    can-stand-requires
+    (λ c κs. tt)
     add-i
     loop-less
     loop-again

@@ -8,20 +8,11 @@ use borrow.Author.Needs.{needs}
 use Rattle.line.proofs.names.argument_of.Statement.{statement}
 use Rattle.line.proofs.names.argument_of.Tie as tie
 
-name-of-requires : tie.Need-name-of-requires
-name-of-requires c κs = search needs
-
-width-requires : tie.Need-width-requires
-width-requires c κs = search needs
-
 sub-result : tie.Need-sub-result
 sub-result c = rw (c .width .ensures, c .before .name-of .ensures) (letters-within (c .before .before .before .args .s .now))
 
 part-result-start : tie.Need-part-result-start
 part-result-start c = rw (c .width .ensures, c .before .name-of .ensures) (letters-within (c .before .before .before .args .s .now))
-
-part-result-end : tie.Need-part-result-end
-part-result-end c = search needs
 
 returns : tie.Need-returns
 unfolding argumentOf
@@ -32,4 +23,4 @@ returns c =
 pub argument-of-spec : {M : Type 1} → statement M
 argument-of-spec =
     tie.close
-    (tie.spec name-of-requires width-requires sub-result part-result-start part-result-end returns)
+    (tie.spec (λ c κs. tt) (λ c κs. tt) sub-result part-result-start (λ c. search needs) returns)

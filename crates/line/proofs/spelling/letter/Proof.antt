@@ -5,14 +5,8 @@ use borrow.Author.Needs.{needs}
 use Rattle.line.proofs.spelling.letter.Statement.{statement}
 use Rattle.line.proofs.spelling.letter.Tie as tie
 
-shared-slice-read-result : tie.Need-shared-slice-read-result
-shared-slice-read-result c = search needs
-
-returns : tie.Need-returns
-returns c = search needs
-
 returns-2 : tie.Need-returns-2
 returns-2 c = search no-letter
 
 pub letter-spec : {M : Type 1} → statement M
-letter-spec = tie.close (tie.spec shared-slice-read-result returns returns-2)
+letter-spec = tie.close (tie.spec (λ c. search needs) (λ c. search needs) returns-2)

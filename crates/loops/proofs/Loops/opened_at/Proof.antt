@@ -1,46 +1,28 @@
 -- `Loops::opened_at` meets its contract.
 -- Assumes nothing.
-use Rattle.loops.specs.Loops.{openedAt}
+use lib.ListN.{length-map}
+use Rattle.loops.proofs.Places.{behind-holds}
 use borrow.Author.Needs.{needs}
 use Rattle.loops.proofs.Loops.opened_at.Statement.{statement}
 use Rattle.loops.proofs.Loops.opened_at.Tie as tie
 
-element-copy-out-a : tie.Need-element-copy-out-a
-element-copy-out-a c = search needs
-
-element-copy-out-b : tie.Need-element-copy-out-b
-element-copy-out-b c = search needs
-
-chosen-requires : tie.Need-chosen-requires
-chosen-requires c κs = search needs
-
-chosen-requires-2 : tie.Need-chosen-requires-2
-chosen-requires-2 c κs = search needs
-
-chosen-requires-3 : tie.Need-chosen-requires-3
-chosen-requires-3 c κs = search needs
-
-chosen-requires-4 : tie.Need-chosen-requires-4
-chosen-requires-4 c κs = search needs
-
-add-t21 : tie.Need-add-t21
-add-t21 c = search needs
-
 returns : tie.Need-returns
-unfolding openedAt
 returns c =
+    let k = c .before .before .before .before .before .before in
+    let full = simp length-map at (k .good .0 .1 .1 .0 .1 .0 .1) in
     rw (c .chosen4 .ensures, c .before .chosen3 .ensures)
-    (rw (c .before .before .chosen2 .ensures, c .before .before .before .chosen .ensures))
+    (rw (c .before .before .chosen2 .ensures, c .before .before .before .chosen .ensures)
+    (behind-holds (k .args .keep) (k .args .newest) (k .args .t1 .slots) full (k .pre)))
 
 pub opened-at-spec : {M : Type 1} → statement M
 opened-at-spec =
     tie.close
     (tie.spec
-    element-copy-out-a
-    element-copy-out-b
-    chosen-requires
-    chosen-requires-2
-    chosen-requires-3
-    chosen-requires-4
-    add-t21
+    (λ c. search needs)
+    (λ c. search needs)
+    (λ c κs. tt)
+    (λ c κs. tt)
+    (λ c κs. tt)
+    (λ c κs. tt)
+    (λ c. search needs)
     returns)

@@ -5,7 +5,6 @@ use lib.ListN.{length}
 use mathlib.Core.Path.{sym, _∙_}
 use mathlib.Core.Logic.{⊎-elim}
 use native.Mathlib.Omega.{arith}
-use borrow.Author.Needs.{needs}
 use Rattle.bench.proofs.Playing.{Feeding, feeding-none, feeding-act, feeding-wait, feeding-as, feeding-full, feeding-all}
 use Rattle.bench.proofs.feeding.Bench.feed.Statement.{statement}
 use Rattle.bench.proofs.feeding.Bench.feed.Tie as tie
@@ -31,12 +30,6 @@ returns c = feeding-full (c .before .before .loop .inv) (omega arith) (omega ari
 
 shared-slice-read-after : tie.Need-shared-slice-read-after Inv-loop μ-loop
 shared-slice-read-after c = omega arith
-
-after-requires : tie.Need-after-requires Inv-loop μ-loop
-after-requires c κs = search needs
-
-is-deed-requires : tie.Need-is-deed-requires Inv-loop μ-loop
-is-deed-requires c κs = search needs
 
 act-requires : tie.Need-act-requires Inv-loop μ-loop
 act-requires c κs = omega arith
@@ -78,8 +71,8 @@ feed-spec =
     same-length
     returns
     shared-slice-read-after
-    after-requires
-    is-deed-requires
+    (λ c κs. tt)
+    (λ c κs. tt)
     act-requires
     add-i
     loop-less

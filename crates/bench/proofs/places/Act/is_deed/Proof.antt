@@ -5,14 +5,8 @@ use Rattle.bench.proofs.Deeds.{deeds}
 use Rattle.bench.proofs.places.Act.is_deed.Statement.{statement}
 use Rattle.bench.proofs.places.Act.is_deed.Tie as tie
 
-enum-told : tie.Need-enum-told
-enum-told c = search needs
-
-returns : tie.Need-returns
-returns c = search needs
-
 returns-2 : tie.Need-returns-2
 returns-2 c = deeds (c .before .args .self) (c .match .keys2)
 
 pub is-deed-spec : {M : Type 1} → statement M
-is-deed-spec = tie.close (tie.spec enum-told returns returns-2)
+is-deed-spec = tie.close (tie.spec (λ c. search needs) (λ c. search needs) returns-2)

@@ -8,39 +8,6 @@ use borrow.Author.Needs.{needs}
 use Rattle.bench.proofs.rigs.Rig.act.Statement.{statement}
 use Rattle.bench.proofs.rigs.Rig.act.Tie as tie
 
-enum-told : tie.Need-enum-told
-enum-told c = search needs
-
-enum-known-act : tie.Need-enum-known-act
-enum-known-act c = search needs
-
-send-requires : tie.Need-send-requires
-send-requires c κs = search needs
-
-enum-known-act-2 : tie.Need-enum-known-act-2
-enum-known-act-2 c = search needs
-
-finish-requires : tie.Need-finish-requires
-finish-requires c κs = search needs
-
-enum-known-act-3 : tie.Need-enum-known-act-3
-enum-known-act-3 c = search needs
-
-set-requires : tie.Need-set-requires
-set-requires c κs = search needs
-
-enum-known-act-4 : tie.Need-enum-known-act-4
-enum-known-act-4 c = search needs
-
-run-requires : tie.Need-run-requires
-run-requires c κs = search needs
-
-enum-told-2 : tie.Need-enum-told-2
-enum-told-2 c = search needs
-
-complaint-requires : tie.Need-complaint-requires
-complaint-requires c κs = search needs
-
 returns : tie.Need-returns
 returns c =
     let g = c .before .before .before .args .self in
@@ -48,9 +15,6 @@ returns c =
       act-rig g _ _ _ e refl,
       act-prints g _ _ 0 e (omega arith) (record { wrote = wrote-none _ _ (omega arith); few = omega arith }),
     )
-
-same-length : tie.Need-same-length
-same-length c = search needs
 
 returns-2 : tie.Need-returns-2
 returns-2 c =
@@ -62,9 +26,6 @@ returns-2 c =
     let f = send-at .send .ensures in
     (act-rig g _ _ _ e (f .0), act-prints g _ _ 46 e (omega arith) (f .1))
 
-same-length-2 : tie.Need-same-length-2
-same-length-2 c = search needs
-
 returns-3 : tie.Need-returns-3
 returns-3 c =
     let finish-at = c .before .before in
@@ -74,9 +35,6 @@ returns-3 c =
     let e = act2-at .act2 .given .1 in
     let f = finish-at .finish .ensures in
     (act-rig g _ _ _ e (f .0), act-prints g _ _ 47 e (omega arith) (f .1))
-
-same-length-3 : tie.Need-same-length-3
-same-length-3 c = search needs
 
 returns-4 : tie.Need-returns-4
 returns-4 c =
@@ -88,9 +46,6 @@ returns-4 c =
     let f = set-at .set .ensures in
     (act-rig g _ _ _ e (f .0), act-prints g _ _ 2 e (omega arith) (f .1))
 
-same-length-4 : tie.Need-same-length-4
-same-length-4 c = search needs
-
 returns-5 : tie.Need-returns-5
 returns-5 c =
     let run-at = c .before .before in
@@ -100,9 +55,6 @@ returns-5 c =
     let e = act4-at .act4 .given .1 in
     let f = run-at .run .ensures in
     (act-rig g _ _ _ e (f .0), act-prints g _ _ 69 e (omega arith) (f .1))
-
-same-length-5 : tie.Need-same-length-5
-same-length-5 c = search needs
 
 returns-6 : tie.Need-returns-6
 returns-6 c =
@@ -120,25 +72,25 @@ pub act-spec : {M : Type 1} → statement M
 act-spec =
     tie.close
     (tie.spec
-    enum-told
-    enum-known-act
-    send-requires
-    enum-known-act-2
-    finish-requires
-    enum-known-act-3
-    set-requires
-    enum-known-act-4
-    run-requires
-    enum-told-2
-    complaint-requires
+    (λ c. search needs)
+    (λ c. search needs)
+    (λ c κs. search needs)
+    (λ c. search needs)
+    (λ c κs. search needs)
+    (λ c. search needs)
+    (λ c κs. search needs)
+    (λ c. search needs)
+    (λ c κs. search needs)
+    (λ c. search needs)
+    (λ c κs. search needs)
     returns
-    same-length
+    (λ c. search needs)
     returns-2
-    same-length-2
+    (λ c. search needs)
     returns-3
-    same-length-3
+    (λ c. search needs)
     returns-4
-    same-length-4
+    (λ c. search needs)
     returns-5
-    same-length-5
+    (λ c. search needs)
     returns-6)

@@ -5,22 +5,10 @@ use borrow.Author.Needs.{needs}
 use Rattle.bench.proofs.rigs.Rig.finish.Statement.{statement}
 use Rattle.bench.proofs.rigs.Rig.finish.Tie as tie
 
-send-requires : tie.Need-send-requires
-send-requires c κs = search needs
-
-same-length : tie.Need-same-length
-same-length c = search needs
-
 returns : tie.Need-returns
 returns c =
     let e = c .before .before .before .before .before .send .ensures in
     (finished-rig _ _ _ (e .0), finished-prints _ _ _ (e .0) (c .if1 .taken) (e .1))
-
-put-requires : tie.Need-put-requires
-put-requires c κs = search needs
-
-same-length-2 : tie.Need-same-length-2
-same-length-2 c = search needs
 
 returns-2 : tie.Need-returns-2
 returns-2 c =
@@ -34,4 +22,4 @@ returns-2 c =
 
 pub finish-spec : {M : Type 1} → statement M
 finish-spec =
-    tie.close (tie.spec send-requires same-length returns put-requires same-length-2 returns-2)
+    tie.close (tie.spec (λ c κs. search needs) (λ c. search needs) returns (λ c κs. search needs) (λ c. search needs) returns-2)

@@ -5,15 +5,6 @@ use Rattle.bench.proofs.Acting.{run-rig, run-prints, unrun-prints}
 use Rattle.bench.proofs.rigs.Rig.run.Statement.{statement}
 use Rattle.bench.proofs.rigs.Rig.run.Tie as tie
 
-ticks-requires : tie.Need-ticks-requires
-ticks-requires c κs = search needs
-
-counts-requires : tie.Need-counts-requires
-counts-requires c κs = search needs
-
-same-length : tie.Need-same-length
-same-length c = search needs
-
 returns : tie.Need-returns
 returns c =
     let counts-at = c .before .before in
@@ -22,12 +13,6 @@ returns c =
     let g = ticks-at .before .before .before .args .self in
     let t = ticks-at .ticks .ensures in
     (run-rig g _ _ t, run-prints g _ _ t (if1-at .if1 .taken) (counts-at .counts .ensures))
-
-complaint-requires : tie.Need-complaint-requires
-complaint-requires c κs = search needs
-
-same-length-2 : tie.Need-same-length-2
-same-length-2 c = search needs
 
 returns-2 : tie.Need-returns-2
 returns-2 c =
@@ -42,10 +27,10 @@ pub run-spec : {M : Type 1} → statement M
 run-spec =
     tie.close
     (tie.spec
-    ticks-requires
-    counts-requires
-    same-length
+    (λ c κs. tt)
+    (λ c κs. search needs)
+    (λ c. search needs)
     returns
-    complaint-requires
-    same-length-2
+    (λ c κs. search needs)
+    (λ c. search needs)
     returns-2)

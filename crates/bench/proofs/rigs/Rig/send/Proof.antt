@@ -5,15 +5,6 @@ use borrow.Author.Needs.{needs}
 use Rattle.bench.proofs.rigs.Rig.send.Statement.{statement}
 use Rattle.bench.proofs.rigs.Rig.send.Tie as tie
 
-sent-requires : tie.Need-sent-requires
-sent-requires c κs = search needs
-
-sent-requires-2 : tie.Need-sent-requires-2
-sent-requires-2 c κs = search needs
-
-same-length : tie.Need-same-length
-same-length c = search needs
-
 returns : tie.Need-returns
 returns c =
     let sent2-at = c .before .before in
@@ -25,12 +16,6 @@ returns c =
     let f = sent2-at .sent2 .ensures in
     let h = if1-at .if1 .taken in
     (held-rig g _ _ h _ (e .0) _ (f .0), held-prints g _ _ h _ (e .0) (e .1) (f .1))
-
-sent-requires-3 : tie.Need-sent-requires-3
-sent-requires-3 c κs = search needs
-
-same-length-2 : tie.Need-same-length-2
-same-length-2 c = search needs
 
 returns-2 : tie.Need-returns-2
 returns-2 c =
@@ -44,10 +29,10 @@ pub send-spec : {M : Type 1} → statement M
 send-spec =
     tie.close
     (tie.spec
-    sent-requires
-    sent-requires-2
-    same-length
+    (λ c κs. search needs)
+    (λ c κs. search needs)
+    (λ c. search needs)
     returns
-    sent-requires-3
-    same-length-2
+    (λ c κs. search needs)
+    (λ c. search needs)
     returns-2)

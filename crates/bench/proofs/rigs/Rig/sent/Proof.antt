@@ -1,26 +1,11 @@
--- `Rig::sent` meets its contract: refused, not answered, or answered.
+-- `Rig::sent` meets its contract: refused, not replied, or replied.
 -- Assumes nothing.
-use Rattle.bench.proofs.Acting.{refused-rig, refused-prints, silent-rig, silent-prints, answered-rig, answered-prints}
+use Rattle.bench.proofs.Acting.{refused-rig, refused-prints, silent-rig, silent-prints, replied-rig, replied-prints}
 use Rattle.bench.proofs.Answers.{length-two, length-held}
 use native.Mathlib.Omega.{arith}
 use borrow.Author.Needs.{needs}
 use Rattle.bench.proofs.rigs.Rig.sent.Statement.{statement}
 use Rattle.bench.proofs.rigs.Rig.sent.Tie as tie
-
-slice-aggregate-byte : tie.Need-slice-aggregate-byte
-slice-aggregate-byte c = search needs
-
-byte-requires : tie.Need-byte-requires
-byte-requires c κs = search needs
-
-number-requires : tie.Need-number-requires
-number-requires c κs = search needs
-
-complaint-requires : tie.Need-complaint-requires
-complaint-requires c κs = search needs
-
-same-length : tie.Need-same-length
-same-length c = search needs
 
 returns : tie.Need-returns
 returns c =
@@ -47,9 +32,6 @@ returns-2 c =
     let z = c .if2 .taken in
     (silent-rig g _ _ _ e q y z, silent-prints g _ _ _ e q y z _ _ (omega arith))
 
-slice-aggregate-answer-line : tie.Need-slice-aggregate-answer-line
-slice-aggregate-answer-line c = search needs
-
 answer-line-requires : tie.Need-answer-line-requires
 answer-line-requires c κs =
     let if2-at = c .before .before in
@@ -59,9 +41,6 @@ answer-line-requires c κs =
     let low = length-two _ _ _ e s in
     let high = length-held _ _ _ e s in
     (low, omega arith, omega arith)
-
-same-length-2 : tie.Need-same-length-2
-same-length-2 c = search needs
 
 returns-3 : tie.Need-returns-3
 returns-3 c =
@@ -76,22 +55,22 @@ returns-3 c =
     let q = number-at .number .ensures in
     let y = if1-at .if1 .left in
     let s = if2-at .if2 .left in (
-      answered-rig g _ _ _ (e .0) q y s,
-      answered-prints g _ _ _ (e .0) q y s (e .1) (answer-line-at .answer-line .ensures),
+      replied-rig g _ _ _ (e .0) q y s,
+      replied-prints g _ _ _ (e .0) q y s (e .1) (answer-line-at .answer-line .ensures),
     )
 
 pub sent-spec : {M : Type 1} → statement M
 sent-spec =
     tie.close
     (tie.spec
-    slice-aggregate-byte
-    byte-requires
-    number-requires
-    complaint-requires
-    same-length
+    (λ c. search needs)
+    (λ c κs. tt)
+    (λ c κs. search needs)
+    (λ c κs. search needs)
+    (λ c. search needs)
     returns
     returns-2
-    slice-aggregate-answer-line
+    (λ c. search needs)
     answer-line-requires
-    same-length-2
+    (λ c. search needs)
     returns-3)

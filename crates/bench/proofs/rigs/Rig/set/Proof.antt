@@ -6,24 +6,12 @@ use borrow.Author.Needs.{needs}
 use Rattle.bench.proofs.rigs.Rig.set.Statement.{statement}
 use Rattle.bench.proofs.rigs.Rig.set.Tie as tie
 
-pin-requires : tie.Need-pin-requires
-pin-requires c κs = search needs
-
-number-requires : tie.Need-number-requires
-number-requires c κs = search needs
-
 returns : tie.Need-returns
 returns c =
     let e = c .before .before .before .pin .ensures in (
       set-rig _ _ _ _ e,
       set-silent _ _ _ _ e _ (c .before .number .ensures) (c .if1 .taken) (omega arith),
     )
-
-complaint-requires : tie.Need-complaint-requires
-complaint-requires c κs = search needs
-
-same-length : tie.Need-same-length
-same-length c = search needs
 
 returns-2 : tie.Need-returns-2
 returns-2 c =
@@ -39,4 +27,4 @@ returns-2 c =
 pub set-spec : {M : Type 1} → statement M
 set-spec =
     tie.close
-    (tie.spec pin-requires number-requires returns complaint-requires same-length returns-2)
+    (tie.spec (λ c κs. tt) (λ c κs. search needs) returns (λ c κs. search needs) (λ c. search needs) returns-2)

@@ -5,12 +5,8 @@ use lib.ListN.{length, length-take, length-map}
 use mathlib.Core.Path.{_≡_}
 use native.Mathlib.Omega.{arith}
 use lib.ListN.{length-take}
-use borrow.Author.Needs.{needs}
 use Rattle.line.proofs.lines.Line.address.Statement.{statement}
 use Rattle.line.proofs.lines.Line.address.Tie as tie
-
-held-requires : tie.Need-held-requires
-held-requires c κs = search needs
 
 array-share-prefix-bytes : tie.Need-array-share-prefix-bytes
 array-share-prefix-bytes c =
@@ -23,9 +19,6 @@ slice-aggregate-address-of c =
     simp length-map at (c .before .before .before .good .0 .1 .1 .0 .1 .0 .1) in
     simp length-take (omega (arith, c .before .held .ensures))
 
-address-of-requires : tie.Need-address-of-requires
-address-of-requires c κs = search needs
-
 returns : tie.Need-returns
 returns c =
     address-kept (c .before .before .before .before .args .self) _
@@ -36,8 +29,8 @@ pub address-spec : {M : Type 1} → statement M
 address-spec =
     tie.close
     (tie.spec
-    held-requires
+    (λ c κs. tt)
     array-share-prefix-bytes
     slice-aggregate-address-of
-    address-of-requires
+    (λ c κs. tt)
     returns)

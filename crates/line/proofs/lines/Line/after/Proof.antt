@@ -6,21 +6,6 @@ use borrow.Author.Needs.{needs}
 use Rattle.line.proofs.lines.Line.after.Statement.{statement}
 use Rattle.line.proofs.lines.Line.after.Tie as tie
 
-arrival-of-requires : tie.Need-arrival-of-requires
-arrival-of-requires c κs = search needs
-
-enum-told : tie.Need-enum-told
-enum-told c = search needs
-
-enum-told-2 : tie.Need-enum-told-2
-enum-told-2 c = search needs
-
-enum-known-c : tie.Need-enum-known-c
-enum-known-c c = search needs
-
-with-character-requires : tie.Need-with-character-requires
-with-character-requires c κs = search needs
-
 returns : tie.Need-returns
 unfolding afterByte
 returns c =
@@ -42,11 +27,11 @@ pub after-spec : {M : Type 1} → statement M
 after-spec =
     tie.close
     (tie.spec
-    arrival-of-requires
-    enum-told
-    enum-told-2
-    enum-known-c
-    with-character-requires
+    (λ c κs. tt)
+    (λ c. search needs)
+    (λ c. search needs)
+    (λ c. search needs)
+    (λ c κs. tt)
     returns
     returns-2
     returns-3)

@@ -6,16 +6,12 @@ use mathlib.Core.Path.{_≡_}
 use native.Mathlib.Omega.{arith}
 use lib.ListN.{length-take}
 use Rattle.line.specs.Lines.{commandIn}
-use borrow.Author.Needs.{needs}
 use Rattle.line.proofs.lines.Line.command.Statement.{statement}
 use Rattle.line.proofs.lines.Line.command.Tie as tie
 
 returns : tie.Need-returns
 unfolding commandIn
 returns c = simp (c .if1 .taken)
-
-held-requires : tie.Need-held-requires
-held-requires c κs = search needs
 
 array-share-prefix-bytes : tie.Need-array-share-prefix-bytes
 array-share-prefix-bytes c =
@@ -29,12 +25,6 @@ slice-aggregate-unaddressed c =
     simp length-map at (c .before .before .before .before .good .0 .1 .1 .0 .1 .0 .1) in
     simp length-take (omega (arith, c .before .held .ensures))
 
-unaddressed-requires : tie.Need-unaddressed-requires
-unaddressed-requires c κs = search needs
-
-command-of-requires : tie.Need-command-of-requires
-command-of-requires c κs = search needs
-
 returns-2 : tie.Need-returns-2
 returns-2 c =
     command-kept (c .before .before .before .before .before .before .args .self) _
@@ -47,9 +37,9 @@ command-spec =
     tie.close
     (tie.spec
     returns
-    held-requires
+    (λ c κs. tt)
     array-share-prefix-bytes
     slice-aggregate-unaddressed
-    unaddressed-requires
-    command-of-requires
+    (λ c κs. tt)
+    (λ c κs. tt)
     returns-2)

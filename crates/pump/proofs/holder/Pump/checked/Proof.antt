@@ -1,26 +1,22 @@
--- `Pump::checked` meets its contract: the current phase is read from the table or stops, and after each phase the rest decide.
+-- `Pump::checked` meets its contract.
 -- Assumes nothing.
-use Prim.Native.Nat.{_-_}
-use mathlib.Core.Bool.{true, false}
-use mathlib.Core.Logic.{⊎-elim}
-use mathlib.Core.Path.{_≡_, refl, _∙_}
-use native.Mathlib.Omega.{arith}
-use lib.ListN.{length-map}
 use Rattle.pump.specs.Holder.{modelPhases, phaseAt}
-use Rattle.pump.proofs.Holding.{checked-as, whole-sound, phase-unsound}
+use lib.ListN.{length-map}
+use native.Mathlib.Omega.{arith}
+use mathlib.Core.Path.{_≡_, refl, _∙_}
+use mathlib.Core.Logic.{⊎-elim}
+use mathlib.Core.Bool.{true, false}
+use Prim.Native.Nat.{_-_}
 use Rattle.pump.proofs.Phases.{phase-read, phase-over, phase-under, Tested, tested-none, tested-more, one-unsound, tested-all}
-use borrow.Author.Needs.{needs}
+use Rattle.pump.proofs.Holding.{checked-as, whole-sound, phase-unsound}
 use Rattle.pump.proofs.holder.Pump.checked.Statement.{statement}
 use Rattle.pump.proofs.holder.Pump.checked.Tie as tie
 
 abbrev Inv-loop : tie.InvT-loop
-Inv-loop phases core line n here i₀ i = (here ≡ phaseAt phases n) × Tested modelPhases phases i
+Inv-loop phases device n here i₀ i = (here ≡ phaseAt phases n) × Tested modelPhases phases i
 
 abbrev μ-loop : tie.MeasureT-loop
-μ-loop phases core line n here i₀ i = 41 - i
-
-power-up-requires : tie.Need-power-up-requires Inv-loop μ-loop
-power-up-requires c κs = search needs
+μ-loop phases device n here i₀ i = 41 - i
 
 cast-at : tie.Need-cast-at Inv-loop μ-loop
 cast-at c = omega arith
@@ -33,9 +29,9 @@ array-copy-out-here c = omega arith
 
 loop-holds : tie.Need-loop-holds Inv-loop μ-loop
 loop-holds c =
-    let k = c .before .before .before .before .before in
+    let k = c .before .before .before .before in
     let ps = k .args .self .phases in
-    let n = k .args .self .core .run .place .current in
+    let n = k .args .self .device .core .run .place .current in
     let full = simp length-map at (k .good .0 .1 .1 .0 .1 .0 .1) in
     let stops = c .before .power-up .ensures in (
       ⊎-elim (λ (w : _). phase-read ps n (c .if1 .here) full _ (w .0 .taken) (w .1 .taken) (w .3))
@@ -45,14 +41,14 @@ loop-holds c =
       tested-none modelPhases ps,
     )
 
+cast-loop : tie.Need-cast-loop Inv-loop μ-loop
+cast-loop c = omega arith
+
 mul-p : tie.Need-mul-p Inv-loop μ-loop
 mul-p c = omega arith
 
 array-copy-out-p : tie.Need-array-copy-out-p Inv-loop μ-loop
 array-copy-out-p c = omega arith
-
-sound-requires : tie.Need-sound-requires Inv-loop μ-loop
-sound-requires c κs = tt
 
 add-i : tie.Need-add-i Inv-loop μ-loop
 add-i c = omega arith
@@ -63,37 +59,34 @@ loop-less c = omega arith
 loop-again : tie.Need-loop-again Inv-loop μ-loop
 loop-again c =
     let turn = c .before .before .before .before in
-    let k = c .before .before .before .before .before .before .before .before .before .before in
+    let k = c .before .before .before .before .before .before .before .before .before in
     let full = simp length-map at (k .good .0 .1 .1 .0 .1 .0 .1) in (
       turn .loop .inv .0,
-      tested-more (k .args .self .phases) (turn .loop .i) full (turn .loop .inv .1) (omega arith) _ (c .before .sound .ensures)
+      tested-more (k .args .self .phases) (turn .loop .i) full (turn .loop .inv .1) (omega arith) _ (c .before .is-sound .ensures)
           (c .if3 .taken),
     )
 
 returns : tie.Need-returns Inv-loop μ-loop
 returns c =
     let turn = c .before .before .before .before in
-    let k = c .before .before .before .before .before .before .before .before .before .before in
+    let k = c .before .before .before .before .before .before .before .before .before in
     let full = simp length-map at (k .good .0 .1 .1 .0 .1 .0 .1) in
     let one =
-    one-unsound (k .args .self .phases) (turn .loop .i) full (turn .loop .inv .1) (omega arith) _ (c .before .sound .ensures)
+    one-unsound (k .args .self .phases) (turn .loop .i) full (turn .loop .inv .1) (omega arith) _ (c .before .is-sound .ensures)
     (c .if3 .left) in
     checked-as (k .args .self) _ (turn .loop .inv .0) (phase-unsound (k .args .self) false one refl)
 
-sound-requires-2 : tie.Need-sound-requires-2 Inv-loop μ-loop
-sound-requires-2 c κs = omega arith
-
-sound-requires-3 : tie.Need-sound-requires-3 Inv-loop μ-loop
-sound-requires-3 c κs = tt
+is-sound-requires-2 : tie.Need-is-sound-requires-2 Inv-loop μ-loop
+is-sound-requires-2 c κs = omega arith
 
 returns-2 : tie.Need-returns-2 Inv-loop μ-loop
 returns-2 c =
-    let turn = c .before .before .before in
-    let k = c .before .before .before .before .before .before .before .before .before in
+    let turn = c .before .before in
+    let k = c .before .before .before .before .before .before .before in
     let full = simp length-map at (k .good .0 .1 .1 .0 .1 .0 .1) in
     let all = tested-all (k .args .self .phases) (turn .loop .i) full (turn .loop .inv .1) (omega arith) in
     checked-as (k .args .self) _ (turn .loop .inv .0)
-    (whole-sound (k .args .self) true all _ _ _ full refl (turn .loop .inv .0) (c .before .sound2 .ensures) (c .sound3 .ensures))
+    (whole-sound (k .args .self) true all _ _ full refl (turn .loop .inv .0) (c .is-sound2 .ensures))
 
 pub checked-spec : {M : Type 1} → statement M
 checked-spec =
@@ -101,18 +94,18 @@ checked-spec =
     (tie.spec
     Inv-loop
     μ-loop
-    power-up-requires
+    (λ c κs. tt)
     cast-at
     mul-here
     array-copy-out-here
     loop-holds
+    cast-loop
     mul-p
     array-copy-out-p
-    sound-requires
+    (λ c κs. tt)
     add-i
     loop-less
     loop-again
     returns
-    sound-requires-2
-    sound-requires-3
+    is-sound-requires-2
     returns-2)

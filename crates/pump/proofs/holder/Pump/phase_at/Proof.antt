@@ -1,58 +1,35 @@
--- `Pump::phase_at` meets its contract: within the table the element, elsewhere a phase that stops.
+-- `Pump::phase_at` meets its contract.
 -- Assumes nothing.
-use mathlib.Core.Path.{_≡_, _∙_}
+use lib.ListN.{length-map}
 use native.Mathlib.Omega.{arith}
-use lib.ListN.{length, length-map}
-use Rattle.pump.proofs.Phases.{power-up-stops, phase-none, phase-past, phase-within}
+use mathlib.Core.Path.{refl}
+use Rattle.pump.proofs.Phases.{number-least, number-most, phase-read, phase-none}
 use borrow.Author.Needs.{needs}
 use Rattle.pump.proofs.holder.Pump.phase_at.Statement.{statement}
 use Rattle.pump.proofs.holder.Pump.phase_at.Tie as tie
 
-power-up-requires : tie.Need-power-up-requires
-power-up-requires c κs = search needs
+sub-i : tie.Need-sub-i
+sub-i c = number-least 41 _ (c .if1 .taken)
+
+element-copy-out-result : tie.Need-element-copy-out-result
+element-copy-out-result c =
+    let n = c .before .args .n in
+    omega (arith, number-least 41 n (c .if1 .taken), number-most 41 n (c .if1 .taken))
 
 returns : tie.Need-returns
-returns c = phase-none _ _ _ (c .power-up .ensures) (c .before .if1 .taken)
-
-sub-i : tie.Need-sub-i
-sub-i c = search needs
-
-cast-i : tie.Need-cast-i
-cast-i c = search needs
-
-power-up-requires-2 : tie.Need-power-up-requires-2
-power-up-requires-2 c κs = search needs
+returns c =
+    let first = c .before .before in
+    let full = simp length-map at (first .good .0 .1 .1 .0 .1 .0 .1) in
+    let inside = c .before .if1 .taken in
+    phase-read (first .args .t1 .phases) (first .args .n) _ full _ (number-least 41 _ inside) (number-most 41 _ inside) refl
 
 returns-2 : tie.Need-returns-2
 returns-2 c =
-    let first = c .before .before .before in
-    let full : length (first .args .t1 .phases) ≡ 41 = simp length-map at (first .good .0 .1 .1 .0 .1 .0 .1) in
-    let some = c .before .before .if1 .left in
-    c .power-up2 .ensures ∙ power-up-stops ∙ phase-past (first .args .t1 .phases) (first .args .n) some (omega arith)
-
-mul-result : tie.Need-mul-result
-mul-result c = search needs
-
-element-copy-out-result : tie.Need-element-copy-out-result
-element-copy-out-result c = search needs
-
-returns-3 : tie.Need-returns-3
-returns-3 c =
-    let first = c .before .before .before in
-    let full : length (first .args .t1 .phases) ≡ 41 = simp length-map at (first .good .0 .1 .1 .0 .1 .0 .1) in
-    let some = c .before .before .if1 .left in
-    phase-within (first .args .t1 .phases) (first .args .n) _ some (omega arith)
+    let first = c .before .before in
+    let full = simp length-map at (first .good .0 .1 .1 .0 .1 .0 .1) in
+    phase-none (first .args .t1 .phases) (first .args .n) _ full (c .before .if1 .left) (c .power-up .ensures)
 
 pub phase-at-spec : {M : Type 1} → statement M
 phase-at-spec =
     tie.close
-    (tie.spec
-    power-up-requires
-    returns
-    sub-i
-    cast-i
-    power-up-requires-2
-    returns-2
-    mul-result
-    element-copy-out-result
-    returns-3)
+    (tie.spec sub-i (λ c. search needs) (λ c. search needs) element-copy-out-result returns (λ c κs. tt) returns-2)

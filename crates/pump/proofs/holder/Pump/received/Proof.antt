@@ -1,28 +1,15 @@
 -- `Pump::received` meets its contract.
 -- Assumes nothing.
-use Rattle.pump.proofs.Holding.{handy-line}
-use Rattle.pump.proofs.Calling.{arrivals}
+use Rattle.pump.proofs.Calling.{arrivals, handy-line}
 use borrow.Author.Needs.{needs}
 use Rattle.pump.proofs.holder.Pump.received.Statement.{statement}
 use Rattle.pump.proofs.holder.Pump.received.Tie as tie
 
-after-requires : tie.Need-after-requires
-after-requires c κs = search needs
-
-with-line-requires : tie.Need-with-line-requires
-with-line-requires c κs = search needs
-
-line-ended-requires : tie.Need-line-ended-requires
-line-ended-requires c κs = search handy-line
-
-same-length : tie.Need-same-length
-same-length c = search needs
+after-line-requires : tie.Need-after-line-requires
+after-line-requires c κs = search handy-line
 
 returns : tie.Need-returns
 returns c = search arrivals
-
-reported-requires : tie.Need-reported-requires
-reported-requires c κs = search needs
 
 returns-2 : tie.Need-returns-2
 returns-2 c = search arrivals
@@ -31,10 +18,12 @@ pub received-spec : {M : Type 1} → statement M
 received-spec =
     tie.close
     (tie.spec
-    after-requires
-    with-line-requires
-    line-ended-requires
-    same-length
+    (λ c κs. tt)
+    (λ c κs. tt)
+    (λ c κs. tt)
+    after-line-requires
+    (λ c κs. tt)
+    (λ c. search needs)
     returns
-    reported-requires
+    (λ c κs. tt)
     returns-2)

@@ -1,0 +1,19 @@
+-- Condition 3: what the observer has added up and the stored totals agree, the visits give what fits, and what holds of every event.
+pub mod Following
+pub mod Joining
+pub mod Stops
+pub mod Pauses
+pub mod Giving
+pub mod Clearing
+pub mod Turning
+pub mod Obeying
+pub mod Catalogue
+pub mod Calls
+pub mod Totals
+pub mod Notebook
+pub mod Entering
+pub mod Working
+pub mod Doses
+pub mod Theorem
+pub mod Opening
+pub mod Example

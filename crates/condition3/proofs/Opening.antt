@@ -1,0 +1,62 @@
+-- The definitions that a line, a tick and a visit compute with, opened together: `unfolding opened` computes calls on closed states.
+-- Assumes nothing.
+use Prim.Native.Nat.{ℕ}
+use Rattle.decimal.specs.Print as print
+use Rattle.decimal.specs.Read as read
+use Rattle.decimal.specs.Short as short
+use Rattle.decimal.specs.Writable as written
+use Rattle.drive.specs.Rates as rates
+use Rattle.drive.specs.Syringe as syringe
+use Rattle.words.specs.Phases as phases
+use Rattle.loops.specs.Loops as loops
+use Rattle.dispense.specs.Ledgers as ledgers
+use Rattle.dispense.specs.Visits as visits
+use Rattle.line.specs.Characters as characters
+use Rattle.line.specs.Spelling as spelling
+use Rattle.line.specs.Names as names
+use Rattle.line.specs.Addresses as addresses
+use Rattle.line.specs.Arguments as arguments
+use Rattle.line.specs.Commands as commands
+use Rattle.line.specs.Functions as functions
+use Rattle.line.specs.Lines as lines
+use Rattle.answer.specs.Answers as answers
+use Rattle.engine.specs.Control as control
+use Rattle.engine.specs.Entering as entering
+use Rattle.engine.specs.Working as working
+use Rattle.engine.specs.Ticks as ticks
+use Rattle.engine.specs.Statuses as statuses
+use Rattle.engine.specs.Sound as sound
+use Rattle.command.specs.Queries as queries
+use Rattle.command.specs.Judging as judging
+use Rattle.command.specs.Obeying as obeying
+use Rattle.pump.specs.Device as device
+use Rattle.pump.specs.Holder as holder
+use Rattle.pump.specs.Calls as calls
+use Rattle.statement.specs.Histories as histories
+use Rattle.condition3.specs.Observations as observations
+
+unfoldable pub opened : ℕ
+unfolding read.isDigit read.isPoint read.plain read.digits read.points read.after read.numberFrom read.wellFormed read.thousandths
+    read.readOf written.writable short.joinedOf short.oneOf short.twoOf short.tenthsOf print.digit print.printed print.twoDigits
+    print.tenthsPrinted
+    rates.hourly rates.usable syringe.diameter syringe.stepVolume syringe.threshold syringe.volumeUnit syringe.inFemtolitres syringe.target
+    phases.powerUp phases.isSoundPhase loops.before loops.lps loops.newest loops.older loops.lop loops.lpe loops.allSound
+    loops.noneBegunBy loops.allDiffer loops.isSoundLoops ledgers.isSoundLedger
+    visits.dueOf visits.storeOf visits.stepsOf visits.givenOf visits.workedOf visits.isDone visits.isSoundVisit
+    characters.isReturn characters.isDropped characters.isLower characters.raised characters.arrivalOf characters.standing spelling.leads
+    spelling.isText names.nameOf names.argumentOf addresses.addressWidth addresses.addressOf addresses.behindAddress
+    arguments.diameterAsked arguments.volumeAsked arguments.unitsOf arguments.unitsAtEnd arguments.amountOf arguments.rateAsked
+    arguments.headingOf arguments.directionAsked arguments.clearAsked arguments.phaseAsked arguments.runAsked arguments.unlessMore
+    functions.calledOf functions.pauseAsked functions.functionAsked commands.commandOf lines.withCharacter lines.afterByte
+    lines.allStanding lines.isSoundLine lines.addressIn lines.commandIn answers.framed answers.lengthIn answers.bufferAfter
+    entering.beginVisit entering.enterRate entering.enterPause entering.startLoop entering.passLoop entering.endLoop entering.jumpIf
+    entering.fire entering.armTrap entering.clearTrap entering.enter working.doseOf working.afterVisit working.giveSteps
+    working.workVisit working.workPause ticks.entered ticks.tickOf statuses.statusOf control.runOn control.runFrom control.stopNow
+    sound.isSoundRun sound.isSoundCore queries.storedRate queries.askRate queries.askVolume queries.askPhase queries.askTotals
+    judging.judgeIdle judging.judgeDiameter judging.judgeStored judging.judgeTuning judging.judgeVolume judging.judgeDirection
+    judging.judgePhase judging.judgeFunction obeying.settle obeying.setDiameter obeying.tune obeying.setRate obeying.choose
+    obeying.clearTotal
+    device.isSoundDevice device.obeyed device.ours device.hearLine holder.phaseAt holder.withPhase holder.freshPhases holder.isSoundPhases
+    holder.isSoundPump calls.tickCall calls.afterLine calls.received calls.receivedBuffer calls.byteReport calls.byteBuffer
+    histories.after observations.trace observations.noted
+opened = 0

@@ -1,0 +1,132 @@
+-- The law of the pause: of any sound pump in a timed pause, and any number of ticks up to the last of it.
+--     pause-goes-on   short of the last, they only count down
+--     pause-ends      the last one ends it: the next phase is the current one, not entered
+--     pause-passes    and each of them reports nothing: no step, no beep, no answer
+-- Assumes nothing.
+use Prim.Native.Nat.{ℕ, zero, suc, _-_, _≤_, _<_}
+use mathlib.Core.Path.{_≡_, refl, sym, ap, _∙_, subst}
+use native.Mathlib.Omega.{arith}
+use borrow.Author.Tests.{le-leb, lt-leb}
+use Rattle.engine.specs.Cores.{withRun}
+use Rattle.engine.specs.Runs.{doing, goOn}
+use Rattle.engine.specs.Ticks.{workBy, tickBy, tickOf}
+use Rattle.engine.specs.Working.{workPause}
+use Rattle.engine.specs.declared.state.Mode.the-variants.{Running}
+use Rattle.engine.specs.declared.ticks.Moved.{Moved}
+use Rattle.engine.specs.declared.state.Work.{Work}
+use Rattle.engine.specs.declared.state.Work.the-variants.{Pausing}
+use Rattle.pump.specs.Calls.{tickCall}
+use Rattle.pump.specs.Holder.{hereOf}
+use Rattle.pump.specs.Reports.{reported, movedBy}
+use Rattle.pump.specs.declared.holder.Pump.{Pump}
+use Rattle.pump.specs.declared.reports.Refusal.the-variants.{Accepted}
+use Rattle.pump.specs.declared.reports.Report.{Report}
+use Rattle.statement.specs.Facts.{coreOf, runOf, underWay}
+use Rattle.statement.specs.Histories.{tickIn, after, Whole}
+use Rattle.statement.specs.Outcomes.{withCore}
+use Rattle.pump.proofs.Kept.{sound-tick}
+use Rattle.statement.proofs.Always.{call-whole}
+use Rattle.statement.proofs.Soundness.{sound-iff}
+use Rattle.condition3.specs.Observations.{Event, Every, eventOf, trace}
+use Rattle.condition3.specs.Sending.{ticks}
+
+-- a sound pump that runs and is in a timed pause with so many ticks left
+pub record InPause (p : Pump) (left : ℕ) : Type 0 where
+  pub whole : Whole p
+  pub running : runOf p .mode ≡ Running
+  pub pausing : underWay p ≡ Pausing left
+
+-- the same pump with another number of ticks left, and the same pump behind the pause
+abbrev pub leaving : Pump → ℕ → Pump
+leaving p left = withCore p (withRun (coreOf p) (doing (runOf p) (Pausing left)))
+
+abbrev pub behindPause : Pump → Pump
+behindPause p = withCore p (withRun (coreOf p) (goOn (runOf p)))
+
+-- an event that is a tick in a timed pause, and reports the next state and nothing else
+pub record Passing (e : Event) : Type 0 where
+  pub left : ℕ
+  pub before-pausing : underWay (e .before) ≡ Pausing left
+  pub nothing : e .report ≡ reported (e .report .pump) 0
+
+-- a sound pause has a tick left
+pub some-left : (p : Pump) (left : ℕ) → InPause p left → 1 ≤ left
+some-left p left h = (sound-iff p .0 (h .whole .sound)) .pause left (h .pausing) .0
+
+-- ---- one tick
+module _ (p : Pump) (left : ℕ) (h : InPause p left) where
+  works : tickCall p ≡ reported (withCore p (withRun (coreOf p) (workPause (runOf p) left))) 0
+  unfolding tickOf
+  works =
+      sound-tick p (h .whole .sound)
+      ∙ ap (λ (m : Moved). movedBy p m Accepted)
+      (ap (tickBy (coreOf p) (hereOf p)) (h .running) ∙ ap (workBy (coreOf p) (hereOf p)) (h .pausing))
+
+  counts-down : 1 < left → tickCall p ≡ reported (leaving p (left - 1)) 0
+  unfolding workPause
+  counts-down k = works ∙ rw (lt-leb left 1 k) refl
+
+  ends : left ≤ 1 → tickCall p ≡ reported (behindPause p) 0
+  unfolding workPause
+  ends k = works ∙ rw (le-leb left 1 k) refl
+
+  on : 1 < left → InPause (leaving p (left - 1)) (left - 1)
+  on k =
+      record {
+        whole = subst (λ (r : Report). Whole (r .pump)) (counts-down k) (call-whole p tickIn (h .whole));
+        running = h .running;
+        pausing = refl;
+      }
+
+  as-it-is : leaving p left ≡ p
+  as-it-is = ap (λ (w : Work). withCore p (withRun (coreOf p) (doing (runOf p) w))) (sym (h .pausing))
+
+  passes : Passing (eventOf p tickIn)
+  passes =
+      record {
+        left = left;
+        before-pausing = h .pausing;
+        nothing = works ∙ sym (ap (λ (r : Report). reported (r .pump) 0) works);
+      }
+
+-- ---- many
+pub pause-goes-on : (p : Pump) (left n : ℕ) → InPause p left → n < left → after p (ticks n) ≡ leaving p (left - n)
+unfolding after ticks
+pause-goes-on p left zero h k = sym (as-it-is p left h) ∙ ap (leaving p) (all left)
+  where
+    all : (m : ℕ) → m ≡ m - 0
+    all m = omega arith
+pause-goes-on p left (suc n) h k =
+    let more : 1 < left = omega arith in
+    ap (λ (r : Report). after (r .pump) (ticks n)) (counts-down p left h more)
+    ∙ pause-goes-on (leaving p (left - 1)) (left - 1) n (on p left h more) (omega arith)
+    ∙ ap (leaving p) (fewer left n)
+  where
+    fewer : (m i : ℕ) → m - 1 - i ≡ m - suc i
+    fewer m i = omega arith
+
+ends-after : (p : Pump) (left n : ℕ) → InPause p left → left ≡ suc n → after p (ticks (suc n)) ≡ behindPause p
+unfolding after ticks
+ends-after p left zero h e = ap (λ (r : Report). r .pump) (ends p left h (omega arith))
+ends-after p left (suc n) h e =
+    let more : 1 < left = omega arith in
+    ap (λ (r : Report). after (r .pump) (ticks (suc n))) (counts-down p left h more)
+    ∙ ends-after (leaving p (left - 1)) (left - 1) n (on p left h more) (omega arith)
+
+pub pause-ends : (p : Pump) (left : ℕ) → InPause p left → after p (ticks left) ≡ behindPause p
+pause-ends p left h = go left (some-left p left h) refl
+  where
+    go : (n : ℕ) → 1 ≤ n → left ≡ n → after p (ticks n) ≡ behindPause p
+    go zero k e = absurd (omega arith)
+    go (suc n) k e = ends-after p left n h e
+
+pub pause-passes : (p : Pump) (left n : ℕ) → InPause p left → n ≤ left → Every Passing (trace p (ticks n))
+unfolding trace ticks
+pause-passes p left zero h k = tt
+pause-passes p left (suc zero) h k = (passes p left h, tt)
+pause-passes p left (suc (suc n)) h k =
+    let more : 1 < left = omega arith in (
+      passes p left h,
+      subst (λ (r : Report). Every Passing (trace (r .pump) (ticks (suc n)))) (sym (counts-down p left h more))
+          (pause-passes (leaving p (left - 1)) (left - 1) (suc n) (on p left h more) (omega arith)),
+    )

@@ -1,0 +1,45 @@
+-- A stopped pump stays as it is, however long one waits, and every tick of it is silent.
+-- Assumes nothing.
+use Prim.Native.Nat.{ℕ, zero, suc}
+use mathlib.Core.Path.{_≡_, refl, sym, ap, _∙_, subst}
+use mathlib.Core.Bool.{true}
+use Rattle.engine.specs.Ticks.{tickBy, tickOf}
+use Rattle.engine.specs.declared.state.Mode.the-variants.{Stopped}
+use Rattle.engine.specs.declared.state.Pending.{Pending}
+use Rattle.engine.specs.declared.ticks.Moved.{Moved}
+use Rattle.pump.specs.Calls.{tickCall}
+use Rattle.pump.specs.Holder.{hereOf, isSoundPump}
+use Rattle.pump.specs.Reports.{reported, movedBy}
+use Rattle.pump.specs.declared.holder.Pump.{Pump}
+use Rattle.pump.specs.declared.reports.Refusal.the-variants.{Accepted}
+use Rattle.pump.specs.declared.reports.Report.{Report}
+use Rattle.statement.specs.Facts.{coreOf, runOf}
+use Rattle.statement.specs.Histories.{after}
+use Rattle.pump.proofs.Kept.{sound-tick}
+use Rattle.condition3.specs.Observations.{Event, Every, trace}
+use Rattle.condition3.specs.Sending.{ticks}
+
+-- an event that is a tick of a stopped pump, and reports that pump and nothing else
+pub record Standing (e : Event) : Type 0 where
+  pub alarm : Pending
+  pub before-stopped : runOf (e .before) .mode ≡ Stopped alarm
+  pub nothing : e .report ≡ reported (e .before) 0
+
+module _ (p : Pump) (sound : isSoundPump p ≡ true) (alarm : Pending) (stopped : runOf p .mode ≡ Stopped alarm) where
+  pub stopped-tick : tickCall p ≡ reported p 0
+  unfolding tickOf
+  stopped-tick =
+      sound-tick p sound ∙ ap (λ (m : Moved). movedBy p m Accepted) (ap (tickBy (coreOf p) (hereOf p)) stopped)
+
+  pub stopped-after : (n : ℕ) → after p (ticks n) ≡ p
+  unfolding after ticks
+  stopped-after zero = refl
+  stopped-after (suc n) = ap (λ (r : Report). after (r .pump) (ticks n)) stopped-tick ∙ stopped-after n
+
+  pub stopped-stands : (n : ℕ) → Every Standing (trace p (ticks n))
+  unfolding trace ticks
+  stopped-stands zero = tt
+  stopped-stands (suc n) = (
+    record { alarm = alarm; before-stopped = stopped; nothing = stopped-tick },
+    subst (λ (r : Report). Every Standing (trace (r .pump) (ticks n))) (sym stopped-tick) (stopped-stands n),
+  )

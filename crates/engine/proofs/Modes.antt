@@ -1,0 +1,49 @@
+-- RUN, STP, the status and a cleared alarm, by the mode and the work that they find.
+-- Assumes nothing.
+use mathlib.Core.Path.{_≡_, sym, ap, _∙_}
+use Rattle.words.specs.declared.answers.Status.{Status}
+use Rattle.words.specs.declared.phases.Direction.{Direction}
+use Rattle.engine.specs.Control.{accept, runBy, runOn, stopBy, stopNow}
+use Rattle.engine.specs.Runs.{withMode, calm, clearAlarm}
+use Rattle.engine.specs.Statuses.{statusBy, statusByWork, statusOf}
+use Rattle.engine.specs.declared.control.Steered.{Steered}
+use Rattle.engine.specs.declared.state.Mode.{Mode}
+use Rattle.engine.specs.declared.state.Mode.the-variants.{Running}
+use Rattle.engine.specs.declared.state.Run.{Run}
+use Rattle.engine.specs.declared.state.Work.{Work}
+
+-- the accepted program is itself the result of a call
+pub accept-after : (r u : Run) (x : Steered) → x ≡ accept u → u ≡ r → x ≡ accept r
+accept-after r u x e q = e ∙ ap accept q
+
+module _ (r : Run) (m : Mode) (e : r .mode ≡ m) where
+  module _ (x : Steered) where
+    pub runs-by : x ≡ runBy r m → x ≡ runOn r
+    unfolding runOn
+    runs-by q = q ∙ ap (runBy r) (sym e)
+
+    pub stops-by : x ≡ stopBy r m → x ≡ stopNow r
+    unfolding stopNow
+    stops-by q = q ∙ ap (stopBy r) (sym e)
+
+  pub status-by : (way : Direction) (x : Status) → x ≡ statusBy way (r .place .work) m → x ≡ statusOf r way
+  unfolding statusOf
+  status-by way x q = q ∙ ap (statusBy way (r .place .work)) (sym e)
+
+  pub calms : (x : Run) → x ≡ withMode r (calm m) → x ≡ clearAlarm r
+  calms x q = q ∙ ap (λ (k : Mode). withMode r (calm k)) (sym e)
+
+  pub stays-calm : calm m ≡ m → r ≡ clearAlarm r
+  stays-calm q = ap (withMode r) (e ∙ sym q) ∙ ap (λ (k : Mode). withMode r (calm k)) (sym e)
+
+pub status-on :
+    (r : Run) (way : Direction) (x : Status) (w : Work)
+    → r .mode ≡ Running
+    → r .place .work ≡ w
+    → x ≡ statusByWork way w
+    → x ≡ statusOf r way
+status-on r way x w e k q = status-by r Running e way x (q ∙ ap (statusByWork way) (sym k))
+
+pub ruleset modes = (accept-after, runs-by, stops-by)
+
+pub ruleset statuses = (status-by, status-on)

@@ -1,0 +1,27 @@
+-- `Run::is_sound_mode` meets its contract: the four clauses of a stopped pump.
+-- Assumes nothing.
+use mathlib.Core.Path.{ap, sym}
+use Rattle.engine.specs.Sound.{isSoundMode}
+use borrow.Author.Needs.{needs}
+use Rattle.engine.proofs.state.Run.is_sound_mode.Statement.{statement}
+use Rattle.engine.proofs.state.Run.is_sound_mode.Tie as tie
+
+returns : tie.Need-returns
+returns c =
+    let k = c .before .before .before in
+    rw (c .is-no-rate .ensures, c .before .before .is-no-trap .ensures, k .is-entering .ensures)
+    (ap (isSoundMode (k .before .before .before .before .args .self)) (sym (k .before .before .enum-told .given .1)))
+
+pub is-sound-mode-spec : {M : Type 1} → statement M
+is-sound-mode-spec =
+    tie.close
+    (tie.spec
+    (λ c. search needs)
+    (λ c κs. tt)
+    (λ c κs. tt)
+    (λ c κs. tt)
+    (λ c. search needs)
+    (λ c. search needs)
+    returns
+    (λ c. search needs)
+    (λ c. search needs))

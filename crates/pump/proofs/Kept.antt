@@ -1,0 +1,99 @@
+-- A sound pump taken apart into its phases, its core and its line, and put together again; its phases as a table; and a tick keeps it
+-- sound, whatever the number of its phases.
+-- Assumes nothing.
+use Prim.Native.Nat.{ℕ, zero, suc, _+_, _≤_}
+use mathlib.Core.Path.{_≡_, refl, ap, _∙_}
+use mathlib.Core.Bool.{Bool, true, _&&_}
+use mathlib.Core.List.{List, [], _∷_}
+use native.Mathlib.Omega.{arith}
+use lib.ListN.{length, getD, List·getD-eq-default}
+use Rattle.base.proofs.Choices.{and-left, and-right}
+use Rattle.base.proofs.Each.{and-both}
+use Rattle.decimal.specs.Writable.{writable}
+use Rattle.words.specs.Phases.{isSoundPhase}
+use Rattle.words.specs.declared.phases.Phase.{Phase}
+use Rattle.engine.specs.Sound.{Ready, isSoundCore}
+use Rattle.engine.specs.declared.state.Core.{Core}
+use Rattle.soundness.specs.Kept.{Table, Kept}
+use Rattle.soundness.proofs.Ticks.{kept-tick}
+use Rattle.line.specs.Lines.{isSoundLine}
+use Rattle.pump.specs.Calls.{tickCall, ticked}
+use Rattle.pump.specs.Device.{withCore, isSoundDevice}
+use Rattle.pump.specs.Holder.{phaseCount, stopPhase, phaseAt, hereOf, withDevice, isSoundPhases, isSoundPump}
+use Rattle.pump.specs.declared.holder.Pump.{Pump}
+use Rattle.pump.specs.declared.reports.Report.{Report}
+
+-- ---- the three parts of a pump
+module _ (p : Pump) where
+  abbrev held : Bool
+  held = isSoundDevice (phaseCount p) (p .device) (hereOf p)
+
+  module _ (e : isSoundPump p ≡ true) where
+    pub pump-phases : isSoundPhases (phaseCount p) (p .phases) ≡ true
+    unfolding isSoundPump
+    pump-phases = and-left (isSoundPhases (phaseCount p) (p .phases)) held e
+
+    pub pump-core : isSoundCore (phaseCount p) (p .device .core) (hereOf p) ≡ true
+    unfolding isSoundPump isSoundDevice
+    pump-core = and-left _ (isSoundLine (p .device .line)) (and-right (isSoundPhases (phaseCount p) (p .phases)) held e)
+
+    pub pump-line : isSoundLine (p .device .line) ≡ true
+    unfolding isSoundPump isSoundDevice
+    pump-line =
+        and-right (isSoundCore (phaseCount p) (p .device .core) (hereOf p)) _ (and-right (isSoundPhases (phaseCount p) (p .phases)) held e)
+
+  pub pump-sound :
+      isSoundPhases (phaseCount p) (p .phases) ≡ true
+      → isSoundCore (phaseCount p) (p .device .core) (hereOf p) ≡ true
+      → isSoundLine (p .device .line) ≡ true
+      → isSoundPump p ≡ true
+  unfolding isSoundPump isSoundDevice
+  pump-sound a b c = and-both _ _ a (and-both _ _ b c)
+
+-- ---- every phase is sound
+module _ (phases : ℕ) where
+  stop-sound : isSoundPhase phases stopPhase ≡ true
+  unfolding isSoundPhase writable
+  stop-sound = refl
+
+  sound-get : (ps : List Phase) (i : ℕ) → isSoundPhases phases ps ≡ true → isSoundPhase phases (getD ps i stopPhase) ≡ true
+  unfolding isSoundPhases
+  sound-get [] i h = stop-sound
+  sound-get (p ∷ ps) zero h = and-left (isSoundPhase phases p) (isSoundPhases phases ps) h
+  sound-get (p ∷ ps) (suc i) h = sound-get ps i (and-right (isSoundPhase phases p) (isSoundPhases phases ps) h)
+
+  sound-at : (ps : List Phase) (n : ℕ) → isSoundPhases phases ps ≡ true → isSoundPhase phases (phaseAt ps n) ≡ true
+  unfolding phaseAt
+  sound-at ps zero h = stop-sound
+  sound-at ps (suc n) h = sound-get ps n h
+
+-- ---- a table, and the phase past its last stops
+past-stops : (ps : List Phase) → phaseAt ps (length ps + 1) ≡ stopPhase
+unfolding phaseAt
+past-stops ps = List·getD-eq-default (stopPhase ∷ ps) stopPhase {n = length ps + 1} (omega arith)
+
+pub table-of : (ps : List Phase) → length ps ≤ 99 → isSoundPhases (length ps) ps ≡ true → Table (length ps) (phaseAt ps)
+table-of ps h e =
+    record { few = h; every = λ n. sound-at (length ps) ps n e; past = ap (λ (x : Phase). x .function) (past-stops ps) }
+
+-- ---- another core
+abbrev pub withPumpCore : Pump → Core → Pump
+withPumpCore p s = withDevice p (withCore (p .device) s)
+
+module _ (p : Pump) where
+  pub core-sound : isSoundPump p ≡ true → (s : Core) → Kept (phaseCount p) (phaseAt (p .phases)) s → isSoundPump (withPumpCore p s) ≡ true
+  core-sound e s k = pump-sound (withPumpCore p s) (pump-phases p e) k (pump-line p e)
+
+  -- ---- a tick of a sound pump is what the rules give, and leaves it sound
+  pub sound-tick : isSoundPump p ≡ true → tickCall p ≡ ticked p
+  unfolding tickCall
+  sound-tick e = rw e refl
+
+  module _ (h : phaseCount p ≤ 99) (e : isSoundPump p ≡ true) where
+    pub table-here : Table (phaseCount p) (phaseAt (p .phases))
+    table-here = table-of (p .phases) h (pump-phases p e)
+
+    pub tick-whole : isSoundPump (tickCall p .pump) ≡ true
+    tick-whole =
+        ap (λ (r : Report). isSoundPump (r .pump)) (sound-tick e)
+        ∙ core-sound e _ (kept-tick (phaseCount p) (phaseAt (p .phases)) table-here (p .device .core) (pump-core p e))

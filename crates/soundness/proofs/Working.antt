@@ -1,0 +1,123 @@
+-- A working tick of a visit or of a timed pause keeps the program under way sound, and the totals at most their limit.
+-- Assumes nothing.
+use Prim.Native.Nat.{ℕ, _+_, _-_, _≤_}
+use mathlib.Core.Path.{_≡_}
+use mathlib.Core.Bool.{true, false}
+use native.Mathlib.Omega.{arith}
+use lib.Dec.{leb, eqb}
+use borrow.Author.Tests.{leb-true, leb-false, le-leb, ne-eqb}
+use Rattle.base.proofs.Choices.{and-left, and-right}
+use Rattle.base.proofs.Each.{each, and-both}
+use Rattle.drive.specs.Rates.{hourly}
+use Rattle.drive.specs.Syringe.{diameter, threshold}
+use Rattle.words.specs.Functions.{number, pauseTicks}
+use Rattle.words.specs.declared.answers.Alarm.the-variants.{Program}
+use Rattle.words.specs.declared.functions.Function.{Function}
+use Rattle.words.specs.declared.phases.Direction.{Direction}
+use Rattle.words.specs.declared.phases.Direction.the-variants.{Infuse, Withdraw}
+use Rattle.words.specs.declared.phases.Phase.{Phase}
+use Rattle.dispense.specs.Ledgers.{mostTotal, totalOf, withFigure, isSoundLedger}
+use Rattle.dispense.specs.Visits.{visitTests, isSoundVisit, workedOf, isDone}
+use Rattle.dispense.specs.declared.ledgers.Ledger.{Ledger}
+use Rattle.dispense.specs.declared.rates.Rate.{Rate}
+use Rattle.dispense.specs.declared.rates.Rate.the-variants.{NoRate, Current}
+use Rattle.dispense.specs.declared.visits.Visit.{Visit}
+use Rattle.engine.specs.Sound.{isSoundWork}
+use Rattle.engine.specs.Working.{doseOf, afterVisit, giveSteps, workAt, workVisit, workPause}
+use Rattle.engine.specs.declared.state.Pending.the-variants.{Raised}
+use Rattle.engine.specs.declared.state.Run.{Run}
+use Rattle.engine.specs.declared.state.Work.the-variants.{Visiting, Pausing}
+use Rattle.engine.specs.declared.working.Given.{Given}
+use Rattle.soundness.specs.Kept.{Table, KeptRun}
+use Rattle.soundness.proofs.Entering.{threshold-above}
+use Rattle.soundness.proofs.Runs.{by-test, Going, next-kept, doing-kept, stop-kept, within}
+use Rattle.soundness.proofs.Visits.{worked-sound}
+
+-- what a working tick must leave sound
+abbrev pub KeptGiven : ℕ → (ℕ → Phase) → ℕ → Given → Type 0
+KeptGiven phases look d x = KeptRun phases look d (x .run) × (isSoundLedger (x .ledger) ≡ true)
+
+-- ---- a sound ledger with another total that is at most its limit
+pub figure-sound :
+    (l : Ledger) (way : Direction) (x : ℕ)
+    → isSoundLedger l ≡ true
+    → leb x mostTotal ≡ true
+    → isSoundLedger (record { totals = withFigure (l .totals) way x }) ≡ true
+unfolding isSoundLedger
+figure-sound l Infuse x e h = and-both (leb x mostTotal) _ h (and-right (leb (l .totals .infused) mostTotal) _ e)
+figure-sound l Withdraw x e h =
+    and-both (leb (l .totals .infused) mostTotal) _ (and-left (leb (l .totals .infused) mostTotal) _ e) h
+
+-- ---- what a phase is doing is of its function, so it does not stop
+pub rate-not-stop : (n : ℕ) → leb n 2 ≡ true → eqb n 3 ≡ false
+rate-not-stop n h = ne-eqb n 3 (λ e. let k = leb-true n 2 h in omega arith)
+
+visit-not-stop : (d : ℕ) (p : Phase) (rate : Rate) (v : Visit) → isSoundVisit d p rate v ≡ true → eqb (number (p .function)) 3 ≡ false
+unfolding isSoundVisit
+visit-not-stop d p rate v w = rate-not-stop (number (p .function)) (each (visitTests d p rate v) w .1 .1 .1 .1 .0)
+
+pause-not-stop : (g : Function) (left : ℕ) → 1 ≤ left → left ≤ pauseTicks g → eqb (number g) 3 ≡ false
+pause-not-stop g left lo hi =
+    ne-eqb (number g) 3
+    (λ e. let none : pauseTicks g ≡ 0 = simp (ne-eqb (number g) 8 (omega arith), ne-eqb (number g) 9 (omega arith)) in absurd (omega arith))
+
+module _ (phases : ℕ) (look : ℕ → Phase) (table : Table phases look) (d : ℕ) (e : diameter d ≡ true) (r : Run) (g : Going phases r) where
+  abbrev here : Phase
+  here = look (r .place .current)
+
+  -- ---- a visit ends, or goes on where it is sound
+  after-kept :
+      (v : Visit)
+      → r .place .current ≤ phases
+      → (isDone v ≡ false → isSoundVisit d here (r .rate) v ≡ true)
+      → KeptRun phases look d (afterVisit r v)
+  unfolding afterVisit
+  after-kept v c w =
+      by-test (KeptRun phases look d) (isDone v)
+      (λ q. next-kept phases look d r g c)
+      (λ q. doing-kept phases look d r g (Visiting v) (w q))
+
+  -- the steps of a visit
+  give-kept :
+      (l : Ledger) (way : Direction) (v : Visit) (hourly : ℕ)
+      → isSoundLedger l ≡ true
+      → isSoundVisit d here (r .rate) v ≡ true
+      → KeptGiven phases look d (giveSteps r l d way v hourly)
+  unfolding giveSteps
+  give-kept l way v hourly s w =
+      by-test (KeptGiven phases look d) (leb (totalOf l way + doseOf d v hourly) mostTotal)
+      (λ q. (
+        after-kept (workedOf v hourly (threshold d))
+            (within phases look table r (g .clauses) (visit-not-stop d here (r .rate) v w))
+            (worked-sound d here (r .rate) v hourly (threshold-above d e) w),
+        figure-sound l way (totalOf l way + doseOf d v hourly) s q,
+      ))
+      (λ q. (stop-kept phases look d r (g .clauses) (Raised Program), s))
+
+  -- at the current rate; a sound visit has one
+  pub visit-kept :
+      (l : Ledger) (way : Direction) (v : Visit)
+      → KeptRun phases look d r
+      → isSoundLedger l ≡ true
+      → isSoundVisit d here (r .rate) v ≡ true
+      → KeptGiven phases look d (workVisit r l d way v)
+  unfolding workVisit
+  visit-kept l way v k s w = go (r .rate)
+    where
+      go : (rate : Rate) → KeptGiven phases look d (workAt r l d way v rate)
+      go NoRate = (k, s)
+      go (Current unit x) = give-kept l way v (hourly x unit) s w
+
+  -- ---- a timed pause
+  pub pause-kept : (left : ℕ) → isSoundWork d here (r .rate) (Pausing left) ≡ true → KeptRun phases look d (workPause r left)
+  unfolding workPause
+  pause-kept left w =
+      let full = pauseTicks (here .function) in
+      let lo = leb-true 1 left (and-left (leb 1 left) (leb left full) w) in
+      let hi = leb-true left full (and-right (leb 1 left) (leb left full) w) in
+      by-test (KeptRun phases look d) (leb left 1)
+      (λ q. next-kept phases look d r g (within phases look table r (g .clauses) (pause-not-stop (here .function) left lo hi)))
+      (λ q.
+      let more = leb-false left 1 q in
+      doing-kept phases look d r g (Pausing (left - 1))
+      (and-both _ _ (le-leb 1 (left - 1) (omega arith)) (le-leb (left - 1) full (omega (arith, hi)))))

@@ -1,0 +1,12 @@
+-- `test_print_two` meets its contract: `hand` answers and writes for the text that `print_two` ensures.
+use Rattle.test_numbers.proofs.Handed.{in-buffers}
+use borrow.Author.Needs.{needs}
+use Rattle.test_numbers.proofs.test_print_two.Statement.{statement}
+use Rattle.test_numbers.proofs.test_print_two.Tie as tie
+
+returns : tie.Need-returns
+returns c = search in-buffers
+
+pub test-print-two-spec : {M : Type 1} → statement M
+test-print-two-spec =
+    tie.close (tie.spec (λ c κs. tt) (λ c. search needs) (λ c κs. tt) (λ c. search needs) returns)

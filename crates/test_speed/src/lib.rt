@@ -1,0 +1,147 @@
+// Ticks against the clock: one function for tests/speed, and nothing else. It runs so many ticks from one of five tables, which
+// the Rust crate beside that script has alike. No crate of the pump uses it.
+//
+// The table is chosen at run time: from one that the compiler knew, it would take the pump apart into its 41 phases and move them
+// one by one.
+use drive::RateUnit;
+use engine::Run;
+use pump::Device;
+use pump::Pump;
+use words::Direction;
+use words::Function;
+use words::Phase;
+
+// The steps infused by that many ticks; all tables infuse.
+#[no_mangle]
+pub extern "C" fn proved_ticks(ticks: u32, table: u32) -> u64 {
+    let mut pump = running(table);
+    let mut steps: u64 = 0;
+    let mut i: u32 = 0;
+    while i < ticks {
+        let report = pump.tick();
+        let next = report.pump;
+        pump = next;
+        steps += report.infused as u64;
+        i += 1;
+    }
+    steps
+}
+
+// A pump just started on a table.
+fn running(table: u32) -> Pump {
+    let mut phases = [bare(Function::Stp); 41];
+    let mut n: u8 = 0;
+    while n < 41 {
+        let at = n as usize;
+        n += 1;
+        phases[at] = phase_of(table, n);
+    }
+    let device = Device::power_up();
+    let core = device.core;
+    Pump {
+        phases: phases,
+        device: device.with_core(core.with_run(Run::start(1))),
+    }
+}
+
+fn phase_of(table: u32, n: u8) -> Phase {
+    match table {
+        0 => continuous(n),
+        1 => large(n),
+        2 => pausing(n),
+        3 => mixed(n),
+        _ => visits(n),
+    }
+}
+
+// One continuous visit; nothing else is set.
+fn continuous(n: u8) -> Phase {
+    match n {
+        1 => rated(Function::Rat, 200_000, 0),
+        _ => bare(Function::Stp),
+    }
+}
+
+// Every number above 9.999.
+fn large(n: u8) -> Phase {
+    let more = n as u32 * 1000;
+    Phase {
+        rate: 4_000_000 + more,
+        volume: 9_000_000 + more,
+        function: Function::Rat,
+        unit: RateUnit::Um,
+        direction: Direction::Infuse,
+    }
+}
+
+// The longest pause, again and again.
+fn pausing(n: u8) -> Phase {
+    match n {
+        1 => bare(Function::Pas(99)),
+        2 => bare(Function::Jmp(1)),
+        _ => bare(Function::Stp),
+    }
+}
+
+// Every function, and numbers of every length, behind a continuous visit.
+fn mixed(n: u8) -> Phase {
+    let x = number_of(n);
+    match n {
+        1 => rated(Function::Rat, 200_000, 0),
+        _ => rated(function_of(n), x, x),
+    }
+}
+
+fn number_of(n: u8) -> u32 {
+    match n % 4 {
+        0 => 1_234_000,
+        1 => 5_000,
+        2 => 50_000,
+        _ => 200_000,
+    }
+}
+
+fn function_of(n: u8) -> Function {
+    match n % 15 {
+        0 => Function::Out(1),
+        1 => Function::Rat,
+        2 => Function::Inc,
+        3 => Function::Dec,
+        4 => Function::Stp,
+        5 => Function::Jmp(7),
+        6 => Function::Lop(9),
+        7 => Function::Lps,
+        8 => Function::Lpe,
+        9 => Function::Pas(50),
+        10 => Function::Tenths(5),
+        11 => Function::If(3),
+        12 => Function::Evn(4),
+        13 => Function::Evr,
+        _ => Function::Bep,
+    }
+}
+
+// Visits of eighteen ticks in a loop.
+fn visits(n: u8) -> Phase {
+    match n {
+        1 => bare(Function::Lps),
+        2 => rated(Function::Rat, 200_000, 1_000),
+        3 => bare(Function::Lop(99)),
+        4 => bare(Function::Jmp(1)),
+        _ => bare(Function::Stp),
+    }
+}
+
+fn rated(function: Function, rate: u32, volume: u32) -> Phase {
+    Phase {
+        rate: rate,
+        volume: volume,
+        function: function,
+        unit: RateUnit::Mh,
+        direction: Direction::Infuse,
+    }
+}
+
+fn bare(function: Function) -> Phase {
+    rated(function, 0, 0)
+}

@@ -1,0 +1,48 @@
+// What the pump answers, as values: a status, a reply, and the two together. Numbers are in thousandths.
+use crate::functions::Function;
+use crate::phases::Direction;
+use drive::RateUnit;
+use drive::VolumeUnit;
+
+// What the pump is doing.
+pub enum Status {
+    Stopped,
+    Paused,
+    TimedPause,
+    TriggerWait,
+    Infusing,
+    Withdrawing,
+}
+
+// R: the pump was switched on. E: the program met something that it cannot do.
+pub enum Alarm {
+    PowerUp,
+    Program,
+}
+
+// What an answer says beside the status.
+pub enum Reply {
+    // the status and nothing else
+    Status,
+    // `?`
+    Malformed,
+    // `?NA`
+    NotApplicable,
+    // `?OOR`
+    OutOfRange,
+    Number(u32),
+    Rate(u32, RateUnit),
+    Volume(u32, VolumeUnit),
+    Direction(Direction),
+    Phase(u8),
+    Function(Function),
+    // infused, withdrawn
+    Totals(u32, u32, VolumeUnit),
+}
+
+// An answer as a value; it becomes bytes only where it is framed. An alarm stands in the status's place.
+pub enum Said {
+    Nothing,
+    Alarm(Alarm),
+    Answer(Status, Reply),
+}

@@ -1,0 +1,36 @@
+// The commands as the pump is asked for them. Numbers are in thousandths; data may be out of range here.
+use crate::functions::Function;
+use crate::phases::Direction;
+use drive::RateUnit;
+
+// The units that a rate was sent with.
+pub enum Units {
+    Own,
+    Given(RateUnit),
+}
+
+pub enum Command {
+    // an over-long line, an unknown name or a malformed argument
+    Malformed,
+    // the empty command
+    Status,
+    AskDiameter,
+    SetDiameter(u32),
+    AskRate,
+    SetRate(u32, Units),
+    AskVolume,
+    SetVolume(u32),
+    AskDirection,
+    SetDirection(Direction),
+    Reverse,
+    AskPhase,
+    SetPhase(u8),
+    AskFunction,
+    SetFunction(Function),
+    Run,
+    RunFrom(u8),
+    Stop,
+    AskDispensed,
+    Clear(Direction),
+    Reset,
+}

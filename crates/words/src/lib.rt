@@ -1,0 +1,21 @@
+// The vocabulary of the command set (document 01, Line and answer; Commands; Ticks and phases): what can be asked, done and answered.
+// Words only: nothing here reads them off a line, prints them or obeys them.
+//
+//   functions   the fifteen functions, each with its number and its datum, and every question about one
+//   phases      the phase record: sound, at power-up; the direction of pumping
+//   commands    the commands with their data
+//   answers     the statuses, the alarms, the replies, and what is said
+mod answers;
+mod commands;
+mod functions;
+mod phases;
+
+pub use answers::Alarm;
+pub use answers::Reply;
+pub use answers::Said;
+pub use answers::Status;
+pub use commands::Command;
+pub use commands::Units;
+pub use functions::Function;
+pub use phases::Direction;
+pub use phases::Phase;

@@ -26,7 +26,7 @@ use Rattle.words.specs.declared.phases.Direction.{Direction}
 use Rattle.words.specs.declared.phases.Direction.the-variants.{Infuse, Withdraw}
 use Rattle.answer.specs.Answers.{bodyOf, framed, answerOf}
 use Rattle.answer.specs.Replies.{totalsText, dataOf}
-use Rattle.answer.proofs.Names.{name-length}
+use Rattle.answer.proofs.Functions.{name-length}
 
 pub rate-unit-length : (unit : RateUnit) → length (rateUnitName unit) ≡ 2
 rate-unit-length Um = refl

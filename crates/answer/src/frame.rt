@@ -26,8 +26,7 @@ pub fn write(address: u8, said: Said, out: &mut [u8]) -> usize
     }
     match said {
         Said::Nothing => 0,
-        Said::Alarm(_) => write_framed(address, said, out),
-        Said::Answer(_, _) => write_framed(address, said, out),
+        Said::Alarm(_) | Said::Answer(_, _) => write_framed(address, said, out),
     }
 }
 

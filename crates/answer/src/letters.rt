@@ -1,7 +1,11 @@
-// The letters that stand for a status and for an alarm.
+// The letters that stand for a status, for an alarm, for a unit and for a direction.
 ghost use mathlib.Core.Path.{_≡_};
+ghost use Rattle.words.specs.Spelling.{rateUnitName, volumeUnitName, directionName};
 ghost use Rattle.answer.specs.Letters.{statusLetter, alarmLetter};
+use drive::RateUnit;
+use drive::VolumeUnit;
 use words::Alarm;
+use words::Direction;
 use words::Status;
 
 pub fn status_letter(status: Status) -> u8
@@ -23,5 +27,34 @@ pub fn alarm_letter(alarm: Alarm) -> u8
     match alarm {
         Alarm::PowerUp => b'R',
         Alarm::Program => b'E',
+    }
+}
+
+pub fn rate_letters(unit: RateUnit) -> [u8; 2]
+    ensures { λ r. ⌜ r ≡ rateUnitName unit ⌝ }
+{
+    match unit {
+        RateUnit::Um => [b'U', b'M'],
+        RateUnit::Mm => [b'M', b'M'],
+        RateUnit::Uh => [b'U', b'H'],
+        RateUnit::Mh => [b'M', b'H'],
+    }
+}
+
+pub fn volume_letters(unit: VolumeUnit) -> [u8; 2]
+    ensures { λ r. ⌜ r ≡ volumeUnitName unit ⌝ }
+{
+    match unit {
+        VolumeUnit::Microlitre => [b'U', b'L'],
+        VolumeUnit::Millilitre => [b'M', b'L'],
+    }
+}
+
+pub fn direction_letters(d: Direction) -> [u8; 3]
+    ensures { λ r. ⌜ r ≡ directionName d ⌝ }
+{
+    match d {
+        Direction::Infuse => [b'I', b'N', b'F'],
+        Direction::Withdraw => [b'W', b'D', b'R'],
     }
 }

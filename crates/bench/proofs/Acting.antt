@@ -1,72 +1,98 @@
 -- What each act does to the rig and prints, by what was called and tested.
 -- Assumes nothing.
 use Prim.Native.Nat.{ℕ, _+_, _≤_}
-use mathlib.Core.Path.{_≡_, sym, ap, _∙_}
-use mathlib.Core.Bool.{Bool, true, false}
-use mathlib.Core.List.{List, [], _∷_, _++_, append-nil}
+use mathlib.Core.Path.{_≡_, refl, sym, ap, _∙_}
+use mathlib.Core.Bool.{Bool, true, false, _||_}
+use mathlib.Core.List.{List, [], _∷_, _++_}
 use native.Mathlib.Omega.{arith}
+use lib.Dec.{eqb, ltb}
 use lib.ListN.{length}
-use borrow.Author.Tests.{eq-eqb, ne-eqb}
-use Rattle.base.specs.Wrote.{Wrote}
-use Rattle.base.proofs.Writing.{wrote-then, wrote-none}
+use borrow.Author.Tests.{lt-ltb, le-ltb}
+use Rattle.base.specs.If.{if_then_else_}
+use Rattle.base.proofs.Writing.{wrote-then}
 use Rattle.pump.specs.Calls.{byteReport, byteBuffer, pinCall}
-use Rattle.pump.specs.Reports.{refusalNumber}
+use Rattle.pump.specs.declared.holder.Pump.{Pump}
 use Rattle.pump.specs.declared.reports.Report.{Report}
-use Rattle.bench.specs.Printing.{Prints, complaintLine, framed, countsLine}
-use Rattle.bench.specs.Rigs.{withPump, zeros, reportOn, bufferOn, answerLine, sentRig, sentLine, sendRig, sendLines}
-use Rattle.bench.specs.Rigs.{finishRig, finishLines, setRig, setLines, runRig, runLines, rigAfter, printed}
 use Rattle.many.specs.Ticking.{ticked}
-use Rattle.bench.specs.declared.places.Act.{Act}
-use Rattle.bench.specs.declared.rigs.Rig.{Rig}
-use Rattle.bench.proofs.Answers.{length-two, length-held}
-use Rattle.bench.proofs.Prints.{prints-as, framed-few}
 use Rattle.many.specs.declared.Ticked.{Ticked}
+use Rattle.script.specs.Places.{newline}
+use Rattle.bench.specs.Printing.{Prints, complaintLine, framed, countsLine}
+use Rattle.bench.specs.Rigs.{withPump, isRefused, zeros, reportOn, bufferOn, answerLine, sentRig, sentLine, sendRig, sendLines}
+use Rattle.bench.specs.Rigs.{finishRig, finishLines, setRig, setLines, runRig, runLines, rigAfter, printed}
+use Rattle.script.specs.declared.places.Act.{Act}
+use Rattle.bench.specs.declared.rigs.Acted.{Acted}
+use Rattle.bench.specs.declared.rigs.Rig.{Rig}
+use Rattle.bench.proofs.Prints.{prints-as, toSay}
+
+-- ---- a rig, by its pump and whether the text had an answer
+abbrev pub holding : Pump → Bool → Rig
+holding p t = record { pump = p; replied = t }
+
+-- ---- whether anything was printed
+abbrev pub some : List ℕ → Bool
+some [] = false
+some (b ∷ s) = true
+
+some-written : (v : List ℕ) (i j : ℕ) → j ≡ i + length v → ltb i j ≡ some v
+some-written [] i j e = le-ltb i j (omega arith)
+some-written (b ∷ v) i j e = lt-ltb i j (omega arith)
+
+some-line : (s : List ℕ) → some (s ++ (newline ∷ [])) ≡ true
+some-line [] = refl
+some-line (b ∷ s) = refl
+
+or-true : (t : Bool) → (t || true) ≡ true
+or-true true = refl
+or-true false = refl
+
+or-false : (t : Bool) → (t || false) ≡ t
+or-false true = refl
+or-false false = refl
+
+told :
+    (refused none was : Bool) (line : List ℕ)
+    → (if refused then true else if none then was else true)
+    ≡ (was || some (if refused then complaintLine else if none then [] else line ++ (newline ∷ [])))
+told true none was line = sym (or-true was)
+told false true was line = sym (or-false was)
+told false false was line = rw (some-line line) (sym (or-true was))
+
+pub replied-told : (g : Rig) (b : ℕ) → sentRig g b .replied ≡ (g .replied || some (sentLine g b))
+unfolding sentRig sentLine answerLine
+replied-told g b =
+    told
+    (isRefused (reportOn (g .pump) b .refusal))
+    (eqb (reportOn (g .pump) b .length) 0)
+    (g .replied)
+    (framed (reportOn (g .pump) b .length) (bufferOn (g .pump) b))
 
 -- ---- one byte
-module _ (g : Rig) (b : ℕ) (r : Report) (k : ℕ) (e : r ≡ byteReport (g .pump) b zeros) (q : k ≡ refusalNumber (r .refusal)) where
-  module _ (n : k ≡ 0 → ⊥) where
-    pub refused-rig : _≡_ {A = Rig} (record { pump = r .pump; replied = true }) (sentRig g b)
-    unfolding sentRig reportOn
-    refused-rig = rw (← e) (sym (simp (ne-eqb (refusalNumber (r .refusal)) 0 (λ z. n (q ∙ z)))))
+module _ (g : Rig) (b : ℕ) (r : Report) (e : r ≡ byteReport (g .pump) b zeros) where
+  sent-line :
+      (t : Bool) (buffer : List ℕ)
+      → t ≡ isRefused (r .refusal)
+      → buffer ≡ byteBuffer (g .pump) b zeros
+      → toSay t (r .length) buffer ≡ sentLine g b
+  unfolding sentLine reportOn bufferOn answerLine
+  sent-line t buffer q f = rw (q, f, e)
 
-    pub refused-prints : {l m : List ℕ} {i j : ℕ} → Wrote l m i j complaintLine → Prints l m i j 23 (sentLine g b)
-    unfolding sentLine reportOn answerLine
-    refused-prints w =
-        prints-as w (rw (← e) (sym (simp (ne-eqb (refusalNumber (r .refusal)) 0 (λ z. n (q ∙ z)))))) (omega (arith, w .ends))
+  sent-rig : (i j : ℕ) → j ≡ i + length (sentLine g b) → holding (r .pump) (g .replied || ltb i j) ≡ sentRig g b
+  unfolding sentRig reportOn
+  sent-rig i j h =
+      ap (λ (t : Bool). holding (r .pump) (g .replied || t)) (some-written (sentLine g b) i j h)
+      ∙ ap (holding (r .pump)) (sym (replied-told g b))
+      ∙ ap (λ (q : Report). holding (q .pump) (sentRig g b .replied)) e
 
-  module _ (y : k ≡ 0) where
-    accepted : refusalNumber (r .refusal) ≡ 0
-    accepted = sym q ∙ y
-
-    module _ (z : r .length ≡ 0) where
-      pub silent-rig : _≡_ {A = Rig} (record { pump = r .pump; replied = g .replied }) (sentRig g b)
-      unfolding sentRig reportOn
-      silent-rig = rw (← e) (sym (simp (eq-eqb (refusalNumber (r .refusal)) 0 accepted, eq-eqb (r .length) 0 z)))
-
-      pub silent-prints : (l : List ℕ) (i : ℕ) → i ≤ length l → Prints l l i i 23 (sentLine g b)
-      unfolding sentLine reportOn answerLine
-      silent-prints l i h =
-          prints-as
-          (wrote-none l i h)
-          (rw (← e) (sym (simp (eq-eqb (refusalNumber (r .refusal)) 0 accepted, eq-eqb (r .length) 0 z))))
-          (omega arith)
-
-    module _ (s : r .length ≡ 0 → ⊥) where
-      pub replied-rig : _≡_ {A = Rig} (record { pump = r .pump; replied = true }) (sentRig g b)
-      unfolding sentRig reportOn
-      replied-rig = rw (← e) (sym (simp (eq-eqb (refusalNumber (r .refusal)) 0 accepted, ne-eqb (r .length) 0 s)))
-
-      pub replied-prints :
-          {buffer : List ℕ} {l m : List ℕ} {i j : ℕ}
-          → buffer ≡ byteBuffer (g .pump) b zeros
-          → Wrote l m i j (framed (r .length) buffer ++ 10 ∷ [])
-          → Prints l m i j 23 (sentLine g b)
-      unfolding sentLine reportOn bufferOn answerLine
-      replied-prints {buffer} f w =
-          prints-as
-          w
-          (rw (← e, ← f) (sym (simp (eq-eqb (refusalNumber (r .refusal)) 0 accepted, ne-eqb (r .length) 0 s))))
-          (omega (arith, w .ends, framed-few (r .length) buffer, length-two (g .pump) b r e s, length-held (g .pump) b r e s))
+  pub sent-acted :
+      {l m : List ℕ} {i j : ℕ} (t : Bool) (buffer : List ℕ) (a : Acted)
+      → t ≡ isRefused (r .refusal)
+      → buffer ≡ byteBuffer (g .pump) b zeros
+      → Prints l m i j 23 (toSay t (r .length) buffer)
+      → a ≡ record { rig = holding (r .pump) (g .replied || ltb i j); end = j }
+      → (a .rig ≡ sentRig g b) × Prints l m i (a .end) 23 (sentLine g b)
+  sent-acted {l} {m} {i} {j} t buffer a q f w z =
+      let s : Prints l m i j 23 (sentLine g b) = prints-as (w .wrote) (sent-line t buffer q f) (w .few) in
+      rw z (sent-rig i j (s .wrote .ends), s)
 
 -- ---- a byte of a text, behind the return that was held back
 module _ (g : Rig) (held : Bool) (b : ℕ) where
@@ -97,62 +123,46 @@ module _ (g : Rig) (held : Bool) (b : ℕ) where
     plain-prints u = prints-as (u .wrote) (rw h) (omega (arith, u .few))
 
 -- ---- the return that ends a text
-module _ (g : Rig) (held : Bool) (last : Rig) (e : last ≡ sendRig g held 13) where
-  pub finished-rig : _≡_ {A = Rig} (record { pump = last .pump; replied = false }) (finishRig g held)
-  unfolding finishRig
-  finished-rig = rw e
-
-  pub finished-prints :
-      {l m : List ℕ} {i j : ℕ}
-      → last .replied ≡ true
-      → Prints l m i j 46 (sendLines g held 13)
-      → Prints l m i j 47 (finishLines g held)
-  unfolding finishLines
-  finished-prints a w = prints-as (w .wrote) (rw (← e) (simp (a, append-nil))) (omega (arith, w .few))
-
-  pub empty-prints :
-      {l m o : List ℕ} {i j k : ℕ}
-      → last .replied ≡ false
-      → Prints l m i j 46 (sendLines g held 13)
-      → Wrote m o j k (10 ∷ [])
-      → Prints l o i k 47 (finishLines g held)
-  unfolding finishLines
-  empty-prints a w v = prints-as (wrote-then (w .wrote) v) (rw (← e) (simp a)) (omega (arith, w .few, v .ends))
+pub finish-acted :
+    {l m o : List ℕ} {i k : ℕ} (g : Rig) (held : Bool) (last a : Acted)
+    → last .rig ≡ sendRig g held 13
+    → Prints l m i (last .end) 46 (sendLines g held 13)
+    → Prints m o (last .end) k 1 (if last .rig .replied then [] else newline ∷ [])
+    → a ≡ record { rig = holding (last .rig .pump) false; end = k }
+    → (a .rig ≡ finishRig g held) × Prints l o i (a .end) 47 (finishLines g held)
+unfolding finishRig finishLines
+finish-acted g held last a e w v z =
+    rw
+    z (
+      ap (λ (x : Rig). holding (x .pump) false) e,
+      prints-as
+          (wrote-then (w .wrote) (v .wrote))
+          (ap (λ (x : Rig). sendLines g held 13 ++ (if x .replied then [] else newline ∷ [])) e)
+          (omega (arith, w .few, v .few)),
+    )
 
 -- ---- a pin's level
-module _ (g : Rig) (pin level : ℕ) (r : Report) (e : r ≡ pinCall (g .pump) pin level) where
-  pub set-rig : _≡_ {A = Rig} (record { pump = r .pump; replied = g .replied }) (setRig g pin level)
-  unfolding setRig
-  set-rig = rw e
-
-  module _ (k : ℕ) (q : k ≡ refusalNumber (r .refusal)) where
-    pub set-silent : {l : List ℕ} {i : ℕ} → k ≡ 0 → i ≤ length l → Prints l l i i 2 (setLines g pin level)
-    unfolding setLines
-    set-silent {l} {i} y h =
-        prints-as (wrote-none l i h) (rw (← e) (sym (simp (eq-eqb (refusalNumber (r .refusal)) 0 (sym q ∙ y))))) (omega arith)
-
-    pub set-refused : {l m : List ℕ} {i j : ℕ} → (k ≡ 0 → ⊥) → Wrote l m i j complaintLine → Prints l m i j 2 (setLines g pin level)
-    unfolding setLines
-    set-refused n w =
-        prints-as w (rw (← e) (sym (simp (ne-eqb (refusalNumber (r .refusal)) 0 (λ z. n (q ∙ z)))))) (omega (arith, w .ends))
+pub set-acted :
+    {l m : List ℕ} {i j : ℕ} (g : Rig) (pin level : ℕ) (r : Report) (t : Bool) (a : Acted)
+    → r ≡ pinCall (g .pump) pin level
+    → t ≡ isRefused (r .refusal)
+    → Prints l m i j 2 (if t then complaintLine else [])
+    → a ≡ record { rig = holding (r .pump) (g .replied); end = j }
+    → (a .rig ≡ setRig g pin level) × Prints l m i (a .end) 2 (setLines g pin level)
+unfolding setRig setLines
+set-acted g pin level r t a e q w z =
+    rw z (ap (λ (x : Report). withPump g (x .pump)) e, prints-as (w .wrote) (rw (q, e)) (w .few))
 
 -- ---- ticks
-module _ (g : Rig) (n : ℕ) (t : Ticked) (f : t ≡ ticked n (g .pump)) where
-  pub run-rig : _≡_ {A = Rig} (record { pump = t .pump; replied = g .replied }) (runRig g n)
-  unfolding runRig
-  run-rig = ap (λ (u : Ticked). withPump g (u .pump)) f
-
-  pub run-prints :
-      {l m : List ℕ} {i j : ℕ}
-      → t .sound ≡ true
-      → Prints l m i j 69 (countsLine n (t .infused) (t .withdrawn))
-      → Prints l m i j 69 (runLines g n)
-  unfolding runLines
-  run-prints y w = prints-as (w .wrote) (rw (← f) (sym (simp y))) (w .few)
-
-  pub unrun-prints : {l m : List ℕ} {i j : ℕ} → t .sound ≡ false → Wrote l m i j complaintLine → Prints l m i j 69 (runLines g n)
-  unfolding runLines
-  unrun-prints y w = prints-as w (rw (← f) (sym (simp y))) (omega (arith, w .ends))
+pub run-acted :
+    {l m : List ℕ} {i j : ℕ} (g : Rig) (n : ℕ) (t : Ticked) (a : Acted)
+    → t ≡ ticked n (g .pump)
+    → Prints l m i j 69 (if t .sound then countsLine n (t .infused) (t .withdrawn) else complaintLine)
+    → a ≡ record { rig = holding (t .pump) (g .replied); end = j }
+    → (a .rig ≡ runRig g n) × Prints l m i (a .end) 69 (runLines g n)
+unfolding runRig runLines
+run-acted g n t a f w z =
+    rw z (ap (λ (u : Ticked). withPump g (u .pump)) f, prints-as (w .wrote) (rw f) (w .few))
 
 -- ---- every act
 module _ (g : Rig) (a : Act) where

@@ -49,13 +49,8 @@ byte-sized p b = go (isSoundPump p) (afterByte (p .device .line) b)
     go true a = arrived (a .ended) (held p a)
     go false a = inl refl
 
-module _ (p : Pump) (b : ℕ) (r : Report) (e : r ≡ byteReport p b zeros) where
-  pub sized : Sized (r .length)
-  sized = rw e (byte-sized p b)
+pub sized : (p : Pump) (b : ℕ) (r : Report) → r ≡ byteReport p b zeros → Sized (r .length)
+sized p b r e = rw e (byte-sized p b)
 
-  module _ (some : r .length ≡ 0 → ⊥) where
-    pub length-two : 2 ≤ r .length
-    length-two = ⊎-elim (λ z. absurd (some z)) (λ z. z .0) sized
-
-    pub length-held : r .length ≤ 24
-    length-held = ⊎-elim (λ z. absurd (some z)) (λ z. z .1) sized
+pub some-sized : (n : ℕ) → Sized n → (n ≡ 0 → ⊥) → (2 ≤ n) × (n ≤ 24)
+some-sized n s z = ⊎-elim (λ h. absurd (z h)) (λ h. h) s

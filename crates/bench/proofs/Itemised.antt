@@ -11,22 +11,23 @@ use Rattle.base.specs.If.{if_then_else_}
 use Rattle.base.specs.Text.{letter}
 use Rattle.pump.specs.Holder.{modelPhases, freshPump}
 use Rattle.pump.specs.declared.holder.Pump.{Pump}
-use Rattle.bench.specs.Items.{Item, say, level, ticks, noItem, ticksItem, levelItem, tickItem, edgeItem, itemOf}
-use Rattle.bench.specs.Items.{valueOf, upToBlank, pastBlank}
-use Rattle.bench.specs.Items.{itemLines, pumpAfter, linesOf, allLines, pumpBehind, scriptOf}
-use Rattle.bench.specs.Places.{inputEnd, after, kind}
+use Rattle.script.specs.Items.{Item, say, level, ticks, noItem, ticksItem, levelItem, tickItem, edgeItem, itemOf}
+use Rattle.script.specs.Items.{valueOf, upToBlank, pastBlank}
+use Rattle.script.specs.Items.{linesOf}
+use Rattle.bench.specs.Effects.{itemLines, pumpAfter, allLines, pumpBehind, scriptOf}
+use Rattle.script.specs.Places.{inputEnd, after, kind}
 use Rattle.bench.specs.Rigs.{setRig, setLines, runRig, runLines}
 use Rattle.bench.specs.Scripts.{turned, played, says, closing, script}
 use Rattle.bench.specs.declared.feeding.Bench.{Bench}
-use Rattle.bench.specs.declared.places.Act.{Act}
-use Rattle.bench.specs.declared.places.Act.the-variants.{Set, Run, Complain}
-use Rattle.bench.specs.declared.places.Place.{Place}
-use Rattle.bench.specs.declared.places.Place.the-variants.{Start}
+use Rattle.script.specs.declared.places.Act.{Act}
+use Rattle.script.specs.declared.places.Act.the-variants.{Set, Run, Complain}
+use Rattle.script.specs.declared.places.Place.{Place}
+use Rattle.script.specs.declared.places.Place.the-variants.{Start}
 use Rattle.bench.specs.declared.rigs.Rig.{Rig}
-use Rattle.bench.proofs.Cuts.{Cut, at-newline, at-both, at-return, at-other, split, lines-cut, rest-within}
+use Rattle.script.proofs.Cuts.{Cut, at-newline, at-both, at-return, at-other, split, lines-cut, rest-within}
 use Rattle.bench.proofs.Onward.{Outcome, outcome, first, atEnd, onward, onward-bench, onward-other, acted, bad-line}
-use Rattle.bench.proofs.Onward.{ticksAct, pinAct, tickAct, tick-line, edgeAct, edge-line}
-use Rattle.bench.proofs.Parts.{ticksTest, ticks-parts, levelTest, level-parts}
+use Rattle.bench.proofs.Onward.{tick-line, edge-line}
+use Rattle.script.proofs.Parts.{ticksAct, pinAct, tickAct, edgeAct, ticksTest, ticks-parts, levelTest, level-parts}
 use Rattle.bench.proofs.Texts.{textLines, textRig, text-line, text-pump, text-says}
 
 -- ---- between two lines no text is under way

@@ -11,20 +11,21 @@ use Rattle.base.specs.If.{if_then_else_}
 use Rattle.base.specs.Text.{letter}
 use Rattle.base.proofs.Choices.{false-true}
 use Rattle.decimal.specs.Read.{isDigit}
-use Rattle.bench.specs.Items.{atNewline}
-use Rattle.bench.specs.Numbers.{grown, ticksAsked, levelAsked}
-use Rattle.bench.specs.Places.{carriageReturn, newline, inputEnd, next, actOn, after}
-use Rattle.bench.specs.Places.{behindTick, inTicks, behindEdge, pinEnded, inPin, inLevel}
+use Rattle.script.specs.Items.{atNewline}
+use Rattle.script.specs.Numbers.{grown, ticksAsked, levelAsked}
+use Rattle.script.specs.Places.{carriageReturn, newline, inputEnd, next, actOn, after}
+use Rattle.script.specs.Places.{behindTick, inTicks, behindEdge, pinEnded, inPin, inLevel}
 use Rattle.bench.specs.Rigs.{rigAfter, printed}
 use Rattle.bench.specs.Scripts.{turned, turnSays, played, says}
 use Rattle.bench.specs.declared.feeding.Bench.{Bench}
-use Rattle.bench.specs.declared.places.Act.{Act}
-use Rattle.bench.specs.declared.places.Act.the-variants.{Complain}
-use Rattle.bench.specs.declared.places.Place.{Place}
-use Rattle.bench.specs.declared.places.Place.the-variants.{Start, Tick, Ticks, Edge, Pin, Level, Returned, Bad}
+use Rattle.script.specs.declared.places.Act.{Act}
+use Rattle.script.specs.declared.places.Act.the-variants.{Complain}
+use Rattle.script.specs.declared.places.Place.{Place}
+use Rattle.script.specs.declared.places.Place.the-variants.{Start, Tick, Ticks, Edge, Pin, Level, Returned, Bad}
 use Rattle.bench.specs.declared.rigs.Rig.{Rig}
-use Rattle.bench.proofs.Cuts.{Cut, ended, at-newline, at-both, at-return, at-other}
-use Rattle.bench.proofs.Saturating.{Alike, alike-grown, same-verdict}
+use Rattle.script.proofs.Cuts.{Cut, ended, at-newline, at-both, at-return, at-other}
+use Rattle.script.proofs.Parts.{ticksAct, levelAct, pinAct, tickAct, edgeAct}
+use Rattle.script.proofs.Saturating.{Alike, alike-grown, same-verdict}
 
 -- ---- all that is printed from here on, and the rig that is left behind the end
 pub record Outcome : Type 0 where
@@ -99,22 +100,6 @@ returned-line g a h (at-other b s l r e f d) = onward-other g (Returned a) b s e
 return-no-digit : isDigit 13 ≡ false
 unfolding isDigit
 return-no-digit = refl
-
--- ---- what the rest of a line asks for: in the number of a `T`, in a pin's level, in a pin, by plain numbers
-unfoldable pub ticksAct : ℕ → List ℕ → Act
-ticksAct n [] = ticksAsked n
-ticksAct n (b ∷ l) = if isDigit b then ticksAct (n * 10 + (b - 48)) l else Complain
-
-unfoldable pub levelAct : ℕ → Bool → ℕ → List ℕ → Act
-levelAct pin some n [] = levelAsked pin some n
-levelAct pin some n (b ∷ l) = if isDigit b then levelAct pin true (n * 10 + (b - 48)) l else Complain
-
-unfoldable pub pinAct : Bool → ℕ → List ℕ → Act
-pinAct some n [] = Complain
-pinAct some n (b ∷ l) =
-    if isDigit b
-    then pinAct true (n * 10 + (b - 48)) l
-    else if eqb b (letter " ") then (if some then levelAct n false 0 l else Complain) else Complain
 
 -- ---- the number of a `T`
 module _ (g : Rig) where
@@ -238,14 +223,6 @@ module _ (g : Rig) where
       refl
 
 -- ---- behind a `T` and behind an `E`: one blank
-abbrev pub tickAct : List ℕ → Act
-tickAct [] = Complain
-tickAct (b ∷ l) = if eqb b (letter " ") then ticksAct 0 l else Complain
-
-abbrev pub edgeAct : List ℕ → Act
-edgeAct [] = Complain
-edgeAct (b ∷ l) = if eqb b (letter " ") then pinAct false 0 l else Complain
-
 module _ (g : Rig) where
   tick-byte :
       (b : ℕ) {s l r : List ℕ}

@@ -2,25 +2,29 @@
 -- Assumes nothing.
 use Prim.Native.Nat.{ℕ, zero, suc, _+_, _-_, _≤_, _<_}
 use mathlib.Core.Path.{_≡_, refl, sym, ap, _∙_}
-use mathlib.Core.Bool.{false}
+use mathlib.Core.Bool.{Bool, true, false, _&&_}
 use mathlib.Core.List.{List, [], _∷_, _++_, append-assoc, append-nil}
 use native.Mathlib.Numerals.{add-one}
 use native.Mathlib.Omega.{arith}
+use lib.Dec.{leb, ltb}
 use lib.ListN.{length, take, drop, getD, take-append-drop, length-drop, drop-of-length-le}
 use lib.Seq.{take-suc, take-all, drop-drop}
+use borrow.Author.Tests.{ltb-true, ltb-false, leb-true, leb-false}
 use Rattle.base.specs.Wrote.{Wrote}
+use Rattle.base.proofs.Choices.{and-left, and-right}
 use Rattle.base.proofs.Writing.{wrote-as, wrote-then, wrote-none, wrote-length}
-use Rattle.bench.specs.Places.{isDeed, after, inputEnd}
+use Rattle.script.specs.Places.{isDeed, after, inputEnd}
 use Rattle.bench.specs.Printing.{Prints}
 use Rattle.bench.specs.Rigs.{rigAfter, printed}
 use Rattle.bench.specs.Scripts.{turned, turnSays, played, says, closing, Feeds}
-use Rattle.bench.specs.declared.places.Act.{Act}
+use Rattle.script.specs.declared.places.Act.{Act}
 use Rattle.bench.specs.declared.feeding.Bench.{Bench}
 use Rattle.bench.specs.declared.feeding.Fed.{Fed}
-use Rattle.bench.specs.declared.places.Place.{Place}
-use Rattle.bench.specs.declared.places.Step.{Step}
+use Rattle.script.specs.declared.places.Place.{Place}
+use Rattle.script.specs.declared.places.Step.{Step}
+use Rattle.bench.specs.declared.rigs.Acted.{Acted}
 use Rattle.bench.specs.declared.rigs.Rig.{Rig}
-use Rattle.bench.proofs.Deeds.{waits}
+use Rattle.script.proofs.Deeds.{waits}
 
 -- ---- one byte
 module _ (w : Bench) (b : ℕ) (step : Step) (e : step ≡ after (w .place) b) where
@@ -126,19 +130,18 @@ module _ {w : Bench} {s l m : List ℕ} {now : Bench} {i at : ℕ} (f : Feeding 
         → Feeding w s l m (record { rig = now .rig; place = step .place }) (i + 1) at
     feeding-wait d k = feeding-more h (wait-bench now _ step e d) (wait-wrote now _ step e d m at k)
 
-  pub feeding-all : length s ≤ i → Feeds w s l m (record { bench = now; taken = i; end = at })
+  feeding-all : length s ≤ i → Feeds w s l m (record { bench = now; taken = i; end = at })
   feeding-all h =
       record { within = f .within; some = λ (z : 0 < length s). omega arith; stands = f .stands; wrote = f .wrote }
 
 -- where two ways meet, with what each of them left
 pub feeding-as :
-    {w : Bench} {s l o o′ : List ℕ} {r r′ : Rig} {q : Place} {i end end′ : ℕ}
+    {w : Bench} {s l o o′ : List ℕ} {a a′ : Acted} {q : Place} {i : ℕ}
     → o′ ≡ o
-    → r′ ≡ r
-    → end′ ≡ end
-    → Feeding w s l o (record { rig = r; place = q }) i end
-    → Feeding w s l o′ (record { rig = r′; place = q }) i end′
-feeding-as x y z f = rw (x, y, z) f
+    → a′ ≡ a
+    → Feeding w s l o (record { rig = a .rig; place = q }) i (a .end)
+    → Feeding w s l o′ (record { rig = a′ .rig; place = q }) i (a′ .end)
+feeding-as x y f = rw (x, y) f
 
 -- a buffer with room for one byte's lines is full only after a byte
 some-taken :
@@ -147,7 +150,7 @@ unfolding says
 some-taken w s l m now zero at f r h = let z : at ≡ 0 = f .wrote .ends in absurd (omega (arith, f .same))
 some-taken w s l m now (suc i) at f r h = omega arith
 
-pub feeding-full :
+feeding-full :
     {w : Bench} {s l m : List ℕ} {now : Bench} {i at : ℕ}
     → Feeding w s l m now i at
     → 69 ≤ length l
@@ -160,6 +163,31 @@ feeding-full {w} {s} {l} {m} {now} {i} {at} f r h =
       stands = f .stands;
       wrote = f .wrote;
     }
+
+-- ---- the loop goes on where there is a byte more and room for what it prints
+module _ (s m : List ℕ) (i at : ℕ) where
+  abbrev goesOn : Bool
+  goesOn = ltb i (length s) && leb 69 (length m - at)
+
+  pub byte-more : goesOn ≡ true → i < length s
+  byte-more h = ltb-true i (length s) (and-left (ltb i (length s)) (leb 69 (length m - at)) h)
+
+  pub room-more : goesOn ≡ true → 69 ≤ length m - at
+  room-more h = leb-true 69 (length m - at) (and-right (ltb i (length s)) (leb 69 (length m - at)) h)
+
+  pub feeding-ends :
+      {w : Bench} {l : List ℕ} {now : Bench}
+      → Feeding w s l m now i at
+      → 69 ≤ length l
+      → goesOn ≡ false
+      → Feeds w s l m (record { bench = now; taken = i; end = at })
+  feeding-ends {w} {l} {now} f r = go (ltb i (length s)) refl
+    where
+      go :
+          (t : Bool) → ltb i (length s) ≡ t → (t && leb 69 (length m - at)) ≡ false
+          → Feeds w s l m (record { bench = now; taken = i; end = at })
+      go true e h = feeding-full f r (leb-false 69 (length m - at) h)
+      go false e h = feeding-all f (ltb-false i (length s) e)
 
 -- ---- a part of the input was played: the rest is played from there
 module _ (s : List ℕ) (from : ℕ) where

@@ -4,19 +4,18 @@ use Prim.Native.Nat.{ℕ}
 use mathlib.Core.Path.{_≡_, refl, sym, ap, _∙_}
 use mathlib.Core.Bool.{Bool, true, false, _||_}
 use mathlib.Core.List.{List, [], _∷_, _++_, append-assoc, append-nil}
-use lib.Dec.{eqb}
 use Rattle.base.specs.If.{if_then_else_}
 use Rattle.base.proofs.Choices.{false-true}
 use Rattle.pump.specs.declared.holder.Pump.{Pump}
-use Rattle.bench.specs.Items.{atNewline, sent, answers, orEmptyLine}
-use Rattle.bench.specs.Places.{carriageReturn, newline, after}
-use Rattle.bench.specs.Printing.{complaintLine, framed}
-use Rattle.bench.specs.Rigs.{isRefused, reportOn, bufferOn, answerLine}
+use Rattle.script.specs.Items.{atNewline}
+use Rattle.bench.specs.Effects.{sent, answers, orEmptyLine}
+use Rattle.script.specs.Places.{carriageReturn, newline, after}
 use Rattle.bench.specs.Rigs.{sentRig, sentLine, sendRig, sendLines, finishRig, finishLines}
-use Rattle.bench.specs.declared.places.Act.the-variants.{Finish}
-use Rattle.bench.specs.declared.places.Place.the-variants.{Start, Text}
+use Rattle.script.specs.declared.places.Act.the-variants.{Finish}
+use Rattle.script.specs.declared.places.Place.the-variants.{Start, Text}
 use Rattle.bench.specs.declared.rigs.Rig.{Rig}
-use Rattle.bench.proofs.Cuts.{Cut, ended, at-newline, at-both, at-return, at-other}
+use Rattle.bench.proofs.Acting.{some, replied-told}
+use Rattle.script.proofs.Cuts.{Cut, ended, at-newline, at-both, at-return, at-other}
 use Rattle.bench.proofs.Onward.{outcome, first, first-first, onward, onward-other, acted-last}
 
 -- ---- the rest of a text, sent to a rig, and its end
@@ -71,46 +70,13 @@ text-pump g [] = refl
 text-pump g (b ∷ l) = text-pump (sentRig g b) l
 
 -- ---- whether there was an answer
-abbrev some : List ℕ → Bool
-some [] = false
-some (b ∷ s) = true
-
 some-append : (s t : List ℕ) → some (s ++ t) ≡ (some s || some t)
 some-append [] t = refl
 some-append (b ∷ s) t = refl
 
-some-line : (s : List ℕ) → some (s ++ (newline ∷ [])) ≡ true
-some-line [] = refl
-some-line (b ∷ s) = refl
-
-or-true : (t : Bool) → (t || true) ≡ true
-or-true true = refl
-or-true false = refl
-
-or-false : (t : Bool) → (t || false) ≡ t
-or-false true = refl
-or-false false = refl
-
 or-assoc : (t u v : Bool) → (t || u || v) ≡ (t || (u || v))
 or-assoc true u v = refl
 or-assoc false u v = refl
-
-told :
-    (refused none was : Bool) (line : List ℕ)
-    → (if refused then true else if none then was else true)
-    ≡ (was || some (if refused then complaintLine else if none then [] else line ++ (newline ∷ [])))
-told true none was line = sym (or-true was)
-told false true was line = sym (or-false was)
-told false false was line = rw (some-line line) (sym (or-true was))
-
-replied-told : (g : Rig) (b : ℕ) → sentRig g b .replied ≡ (g .replied || some (sentLine g b))
-unfolding sentRig sentLine answerLine
-replied-told g b =
-    told
-    (isRefused (reportOn (g .pump) b .refusal))
-    (eqb (reportOn (g .pump) b .length) 0)
-    (g .replied)
-    (framed (reportOn (g .pump) b .length) (bufferOn (g .pump) b))
 
 -- ---- what is printed
 abbrev emptyUnless : Bool → List ℕ

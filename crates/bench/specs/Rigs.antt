@@ -11,11 +11,11 @@ use Rattle.pump.specs.Reports.{refusalNumber}
 use Rattle.pump.specs.declared.holder.Pump.{Pump}
 use Rattle.pump.specs.declared.reports.Refusal.{Refusal}
 use Rattle.pump.specs.declared.reports.Report.{Report}
-use Rattle.bench.specs.Places.{carriageReturn, newline}
+use Rattle.script.specs.Places.{carriageReturn, newline}
 use Rattle.bench.specs.Printing.{complaintLine, framed, countsLine}
 use Rattle.many.specs.Ticking.{ticked}
-use Rattle.bench.specs.declared.places.Act.{Act}
-use Rattle.bench.specs.declared.places.Act.the-variants.{Wait, Send, Finish, Set, Run, Complain}
+use Rattle.script.specs.declared.places.Act.{Act}
+use Rattle.script.specs.declared.places.Act.the-variants.{Wait, Send, Finish, Set, Run, Complain}
 use Rattle.bench.specs.declared.rigs.Rig.{Rig}
 
 -- a pump just switched on, and no text yet

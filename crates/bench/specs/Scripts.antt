@@ -1,15 +1,15 @@
--- The whole of a script as the program plays it, a byte at a time: the bench after some bytes, and all that they print. Items says the
--- same line by line (`itemised`, proofs/Itemised.antt).   (01, Marked figures: the bench program)
+-- The whole of a script as the program plays it, a byte at a time: the bench after some bytes, and all that they print. Effects says
+-- the same line by line (`itemised`, proofs/Itemised.antt).   (01, Marked figures: the bench program)
 use Prim.Native.Nat.{ℕ, _≤_, _<_}
 use mathlib.Core.Path.{_≡_}
 use mathlib.Core.List.{List, [], _∷_, _++_}
 use lib.ListN.{length, take}
 use Rattle.base.specs.Wrote.{Wrote}
-use Rattle.bench.specs.Places.{after, inputEnd}
+use Rattle.script.specs.Places.{after, inputEnd}
 use Rattle.bench.specs.Rigs.{freshRig, rigAfter, printed}
 use Rattle.bench.specs.declared.feeding.Bench.{Bench}
 use Rattle.bench.specs.declared.feeding.Fed.{Fed}
-use Rattle.bench.specs.declared.places.Place.the-variants.{Start}
+use Rattle.script.specs.declared.places.Place.the-variants.{Start}
 
 -- a pump just switched on, before the first line
 abbrev pub freshBench : Bench

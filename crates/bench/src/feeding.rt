@@ -4,9 +4,10 @@ ghost use Prim.Native.Nat.{_+_, _≤_};
 ghost use lib.ListN.{length};
 ghost use Rattle.base.specs.Wrote.{Wrote};
 ghost use Rattle.bench.specs.Scripts.{freshBench, closing, Feeds};
-use crate::places::Place;
+use crate::rigs::Acted;
 use crate::rigs::ROOM;
 use crate::rigs::Rig;
+use script::Place;
 
 // The rig, and where in a line the input stands.
 pub struct Bench {
@@ -19,6 +20,21 @@ pub struct Fed {
     pub bench: Bench,
     pub taken: usize,
     pub end: usize,
+}
+
+impl Fed {
+    fn new(rig: Rig, place: Place, taken: usize, end: usize) -> Fed
+        ensures { λ r. ⌜ r ≡ record { bench = record { rig = rig; place = place }; taken = taken; end = end } ⌝ }
+    {
+        Fed {
+            bench: Bench {
+                rig: rig,
+                place: place,
+            },
+            taken: taken,
+            end: end,
+        }
+    }
 }
 
 impl Bench {
@@ -37,39 +53,20 @@ impl Bench {
         requires { ⌜ 69 ≤ length (now out) ⌝ }
         ensures { λ r. ⌜ Feeds self (now (s .entry)) (now (out .entry)) (now (out .exit)) r ⌝ }
     {
-        let mut rig = self.rig;
+        let rig = self.rig;
+        let mut acted = Acted { rig: rig, end: 0 };
         let mut place = self.place;
         let mut i = 0;
-        let mut at = 0;
-        while i < s.len() {
-            if out.len() - at < ROOM {
-                return Fed {
-                    bench: Bench {
-                        rig: rig,
-                        place: place,
-                    },
-                    taken: i,
-                    end: at,
-                };
-            }
+        while (i < s.len()) & (ROOM <= out.len() - acted.end) {
             let step = place.after(s[i]);
             let act = step.act;
             place = step.place;
             if act.is_deed() {
-                let acted = rig.act(act, out, at);
-                rig = acted.rig;
-                at = acted.end;
+                acted = acted.rig.act(act, out, acted.end);
             }
             i += 1;
         }
-        Fed {
-            bench: Bench {
-                rig: rig,
-                place: place,
-            },
-            taken: i,
-            end: at,
-        }
+        Fed::new(acted.rig, place, i, acted.end)
     }
 
     // The end of the input.
@@ -78,8 +75,7 @@ impl Bench {
         ensures { λ r. ⌜ Wrote (now (out .entry)) (now (out .exit)) 0 r (closing self) ⌝ }
     {
         let place = self.place;
-        let rig = self.rig;
-        let acted = rig.act(place.input_end(), out, 0);
+        let acted = self.rig.act(place.input_end(), out, 0);
         acted.end
     }
 }

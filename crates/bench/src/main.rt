@@ -2,25 +2,20 @@
 // that was just switched on, and prints what comes of them. It is a filter: what a part of the input has to say is written before
 // more is read, and of the input no more is kept than where in a line it stands.
 //
-//   places     where in a line the input stands, and what can be asked for there
-//   numbers    the numbers of an item, as their digits come
-//   bytes      a byte at each place
-//   reading    one byte more of a line
+// What a byte of the script asks for is told by the crate `script`; here it is done.
+//
 //   rigs       the pump under test: what each act does to it and prints
 //   printing   lines, counts, the complaint
 //   feeding    the bytes of the input, one after the other, and its end
 ghost use mathlib.Core.Path.{_≡_};
 ghost use Rattle.bench.specs.Scripts.{played};
 
-mod bytes;
 mod feeding;
-mod numbers;
-mod places;
 mod printing;
-mod reading;
 mod rigs;
 
 use feeding::Bench;
+use feeding::Fed;
 use libc::STDIN_FILENO;
 use libc::STDOUT_FILENO;
 
@@ -58,17 +53,20 @@ fn serve(bench: Bench) -> Served {
 fn play(bench: Bench, s: &[u8]) -> Bench
     ensures { λ r. ⌜ r ≡ played bench (now (s .entry)) ⌝ }
 {
-    let mut now = bench;
+    let mut fed = Fed {
+        bench: bench,
+        taken: 0,
+        end: 0,
+    };
     let mut from = 0;
     let mut out = io::large_buffer();
     while from < s.len() {
-        let fed = now.feed(&s[from..], &mut out);
+        fed = fed.bench.feed(&s[from..], &mut out);
         let end = fed.end;
         io::write_all(STDOUT_FILENO, &out[..end]);
-        now = fed.bench;
         from += fed.taken;
     }
-    now
+    fed.bench
 }
 
 // The end of the input.

@@ -3,15 +3,17 @@ ghost use mathlib.Core.Path.{_≡_};
 ghost use Prim.Native.Nat.{_+_, _≤_};
 ghost use lib.ListN.{length};
 ghost use Rattle.bench.specs.Printing.{Prints};
-ghost use Rattle.bench.specs.Rigs.{freshRig, rigAfter, printed, sentRig, sentLine, sendRig, sendLines};
+ghost use Rattle.bench.specs.Rigs.{freshRig, rigAfter, printed, isRefused, sentRig, sentLine, sendRig, sendLines};
 ghost use Rattle.bench.specs.Rigs.{finishRig, finishLines, setRig, setLines, runRig, runLines};
-use crate::places::Act;
 use crate::printing::answer_line;
 use crate::printing::complaint;
-use crate::printing::counts;
-use base::put;
+use crate::printing::refusal_line;
+use crate::printing::silence_line;
+use crate::printing::ticks_line;
 use many::ticks;
 use pump::Pump;
+use pump::Refusal;
+use script::Act;
 
 // The most that one act prints, the counts of ticks. The line of an answer has at most 23 bytes, and no act prints more than two
 // of these and an empty one.
@@ -46,16 +48,17 @@ impl Rig {
             (r .rig ≡ rigAfter self act) × Prints (now (out .entry)) (now (out .exit)) at (r .end) 69 (printed self act)
             ⌝ }
     {
-        match act {
-            Act::Wait => Acted { rig: self, end: at },
-            Act::Send(held, b) => self.send(held, b, out, at),
-            Act::Finish(held) => self.finish(held, out, at),
-            Act::Set(pin, level) => self.set(pin, level, out, at),
-            Act::Run(n) => self.run(n, out, at),
-            Act::Complain => Acted {
-                rig: self,
-                end: complaint(out, at),
-            },
+        let end = match act {
+            Act::Send(held, b) => return self.send(held, b, out, at),
+            Act::Finish(held) => return self.finish(held, out, at),
+            Act::Set(pin, level) => return self.set(pin, level, out, at),
+            Act::Run(n) => return self.run(n, out, at),
+            Act::Wait => at,
+            Act::Complain => complaint(out, at),
+        };
+        Acted {
+            rig: self,
+            end: end,
         }
     }
 
@@ -68,13 +71,12 @@ impl Rig {
     {
         if held {
             let first = self.sent(b'\r', out, at);
-            let rig = first.rig;
-            return rig.sent(b, out, first.end);
+            return first.rig.sent(b, out, first.end);
         }
         self.sent(b, out, at)
     }
 
-    // The return that ends a text. A text that had no answer at all gets an empty line.
+    // The return that ends a text.
     fn finish(self, held: bool, out: &mut [u8], at: usize) -> Acted
         requires { ⌜ at + 47 ≤ length (now out) ⌝ }
         ensures { λ r. ⌜
@@ -82,25 +84,14 @@ impl Rig {
             ⌝ }
     {
         let last = self.send(held, b'\r', out, at);
-        let rig = last.rig;
-        let pump = rig.pump;
-        let next = Rig {
-            pump: pump,
-            replied: false,
-        };
-        if rig.replied {
-            return Acted {
-                rig: next,
-                end: last.end,
-            };
-        }
-        Acted {
-            rig: next,
-            end: put(out, last.end, b'\n'),
-        }
+        Acted::new(
+            last.rig.pump,
+            false,
+            silence_line(last.rig.replied, out, last.end),
+        )
     }
 
-    // One byte. Its answer, if it gets one, is a line: what lies between STX and ETX.
+    // One byte. A line that it prints is an answer to the text.
     fn sent(self, b: u8, out: &mut [u8], at: usize) -> Acted
         requires { ⌜ at + 23 ≤ length (now out) ⌝ }
         ensures { λ r. ⌜
@@ -108,36 +99,10 @@ impl Rig {
             ⌝ }
     {
         let mut answer = [0u8; 24];
-        let pump = self.pump;
-        let report = pump.byte(b, &mut answer);
-        let next = report.pump;
+        let report = self.pump.byte(b, &mut answer);
         let refusal = report.refusal;
-        let n = report.length;
-        if refusal.number() != 0 {
-            return Acted {
-                rig: Rig {
-                    pump: next,
-                    replied: true,
-                },
-                end: complaint(out, at),
-            };
-        }
-        if n == 0 {
-            return Acted {
-                rig: Rig {
-                    pump: next,
-                    replied: self.replied,
-                },
-                end: at,
-            };
-        }
-        Acted {
-            rig: Rig {
-                pump: next,
-                replied: true,
-            },
-            end: answer_line(&answer, n, out, at),
-        }
+        let end = answer_line(is_refused(refusal), report.length, &answer, out, at);
+        Acted::new(report.pump, self.replied | (at < end), end)
     }
 
     // A pin's level; printed only where the call refuses it.
@@ -147,21 +112,13 @@ impl Rig {
             (r .rig ≡ setRig self pin level) × Prints (now (out .entry)) (now (out .exit)) at (r .end) 2 (setLines self pin level)
             ⌝ }
     {
-        let pump = self.pump;
-        let report = pump.pin(pin, level);
-        let next = report.pump;
+        let report = self.pump.pin(pin, level);
         let refusal = report.refusal;
-        let rig = Rig {
-            pump: next,
-            replied: self.replied,
-        };
-        if refusal.number() == 0 {
-            return Acted { rig: rig, end: at };
-        }
-        Acted {
-            rig: rig,
-            end: complaint(out, at),
-        }
+        Acted::new(
+            report.pump,
+            self.replied,
+            refusal_line(is_refused(refusal), out, at),
+        )
     }
 
     // Ticks, and the counts of their steps. A tick is refused where the state is not sound.
@@ -171,22 +128,36 @@ impl Rig {
             (r .rig ≡ runRig self n) × Prints (now (out .entry)) (now (out .exit)) at (r .end) 69 (runLines self n)
             ⌝ }
     {
-        let pump = self.pump;
-        let ticked = ticks(pump, n);
-        let next = ticked.pump;
-        let rig = Rig {
-            pump: next,
-            replied: self.replied,
-        };
-        if ticked.sound {
-            return Acted {
-                rig: rig,
-                end: counts(n as u64, ticked.infused, ticked.withdrawn, out, at),
-            };
-        }
+        let ticked = ticks(self.pump, n);
+        let end = ticks_line(
+            ticked.sound,
+            n as u64,
+            ticked.infused,
+            ticked.withdrawn,
+            out,
+            at,
+        );
+        Acted::new(ticked.pump, self.replied, end)
+    }
+}
+
+impl Acted {
+    fn new(pump: Pump, replied: bool, end: usize) -> Acted
+        ensures { λ r. ⌜ r ≡ record { rig = record { pump = pump; replied = replied }; end = end } ⌝ }
+    {
         Acted {
-            rig: rig,
-            end: complaint(out, at),
+            rig: Rig {
+                pump: pump,
+                replied: replied,
+            },
+            end: end,
         }
     }
+}
+
+// Every refusal but none has a number.
+fn is_refused(refusal: Refusal) -> bool
+    ensures { λ r. ⌜ r ≡ isRefused refusal ⌝ }
+{
+    refusal.number() != 0
 }

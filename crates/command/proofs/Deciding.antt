@@ -4,7 +4,10 @@ use Prim.Native.Nat.{ℕ, _<_}
 use mathlib.Core.Path.{_≡_, refl, sym, ap, _∙_}
 use mathlib.Core.Bool.{Bool, true, false}
 use mathlib.Core.Logic.{_⊎_, inl, inr}
+use mathlib.Core.List.{[], _∷_}
 use lib.Dec.{leb}
+use denote.Enum.Declared.{tagOf}
+use types.Run.{OneOf, miss}
 use borrow.Author.Tests.{lt-leb}
 use Rattle.base.proofs.Choices.{and-false}
 use Rattle.drive.specs.Syringe.{leastDiameter, mostDiameter, diameter}
@@ -15,10 +18,11 @@ use Rattle.words.specs.declared.phases.Phase.{Phase}
 use Rattle.dispense.specs.declared.rates.Rate.{Rate}
 use Rattle.engine.specs.Cores.{withRun, withSyringe}
 use Rattle.engine.specs.Runs.{isOperating}
-use Rattle.engine.specs.declared.control.Steered.{Steered}
 use Rattle.engine.specs.declared.state.Core.{Core}
 use Rattle.engine.specs.declared.state.Mode.{Mode}
+use Rattle.engine.specs.declared.state.Mode.the-variants.{Stopped, Paused, Running}
 use Rattle.engine.specs.declared.state.Run.{Run}
+use Rattle.engine.proofs.state.Mode.{the-type}
 use Rattle.command.specs.Judging.{judgeDiameter}
 use Rattle.command.specs.Obeying as o
 use Rattle.command.specs.declared.judging.Verdict.{Verdict}
@@ -31,12 +35,6 @@ use Rattle.command.proofs.Choosing as choosing
 module _ (s : Core) (r : Obeyed) where
   pub answer-after : (u : Core) (k : Reply) → r ≡ o.answer u k → u ≡ s → r ≡ o.answer s k
   answer-after u k e q = e ∙ ap (λ (v : Core). o.answer v k) q
-
-  pub answer-with : (k l : Reply) → r ≡ o.answer s l → l ≡ k → r ≡ o.answer s k
-  answer-with k l e q = e ∙ ap (o.answer s) q
-
-  pub steer-with : (x y : Steered) → r ≡ o.steer s y → y ≡ x → r ≡ o.steer s x
-  steer-with x y e q = e ∙ ap (o.steer s) q
 
   pub decide-after :
       (u after : Core) (edit : Edit) (k v : Verdict) → r ≡ o.decide s u edit k → u ≡ after → k ≡ v → r ≡ o.decide s after edit v
@@ -74,6 +72,12 @@ pub settles-by :
 unfolding o.settle
 settles-by s m r e q = q ∙ ap (λ (k : Mode). withRun s (o.settleBy (s .run) k)) (sym e)
 
+-- `settle` asks for a pause alone
+pub unpaused : (r : Run) (m : Mode) → OneOf (0 ∷ 2 ∷ []) (tagOf the-type m) → r ≡ o.settleBy r m
+unpaused r (Stopped alarm) h = refl
+unpaused r Paused h = absurd (miss (0 ∷ 2 ∷ []) 1 tt h)
+unpaused r Running h = refl
+
 pub tunes-by : (r x : Run) (n : ℕ) (k : Rate) → r .rate ≡ k → x ≡ o.tuneBy r n k → x ≡ o.tune r n
 unfolding o.tune
 tunes-by r x n k e q = q ∙ ap (o.tuneBy r n) (sym e)
@@ -92,5 +96,3 @@ obeys-by s p next phases c k r e q = q ∙ ap (o.obey s p next phases) (sym e)
 pub ruleset obeying = (run-after, answer-after, settles-by, tunes-by, decides-by)
 
 pub ruleset setting = (decide-after, set-after, run-after, choosing.choices)
-
-pub ruleset commanding = (obeys-by, answer-with, steer-with, set-after)

@@ -58,6 +58,15 @@ settle s = withRun s (settleBy (s .run) (s .run .mode))
 abbrev pub setPhaseTo : Core → Phase → Verdict → Obeyed
 setPhaseTo s p verdict = decide s (settle s) (Write p) verdict
 
+abbrev pub setVolume : Core → Phase → ℕ → Obeyed
+setVolume s p x = setPhaseTo s (withVolume p x) (judging.judgeVolume (isOperating (s .run)) p)
+
+abbrev pub setDirection : Core → Phase → Direction → Obeyed
+setDirection s p way = setPhaseTo s (withDirection p way) (judging.judgeDirection (isOperating (s .run)) p)
+
+abbrev pub setFunction : Core → Phase → Function → ℕ → Obeyed
+setFunction s p g phases = setPhaseTo s (withFunction p g) (judging.judgeFunction (isOperating (s .run)) g phases)
+
 -- ---- DIA zeroes nothing
 unfoldable pub setDiameter : Core → ℕ → Obeyed
 setDiameter s x =
@@ -99,17 +108,14 @@ obey s p next phases (c.SetDiameter x) = setDiameter s x
 obey s p next phases c.AskRate = answer s (askRate (s .run) p)
 obey s p next phases (c.SetRate x units) = setRate s p next x units
 obey s p next phases c.AskVolume = answer s (askVolume (s .syringe) p)
-obey s p next phases (c.SetVolume x) = setPhaseTo s (withVolume p x) (judging.judgeVolume (isOperating (s .run)) p)
+obey s p next phases (c.SetVolume x) = setVolume s p x
 obey s p next phases c.AskDirection = answer s (reply.Direction (p .direction))
-obey s p next phases (c.SetDirection way) =
-    setPhaseTo s (withDirection p way) (judging.judgeDirection (isOperating (s .run)) p)
-obey s p next phases c.Reverse =
-    setPhaseTo s (withDirection p (reverse (p .direction))) (judging.judgeDirection (isOperating (s .run)) p)
+obey s p next phases (c.SetDirection way) = setDirection s p way
+obey s p next phases c.Reverse = setDirection s p (reverse (p .direction))
 obey s p next phases c.AskPhase = answer s (askPhase (s .run) (s .chosen) phases)
 obey s p next phases (c.SetPhase n) = choose s n phases
 obey s p next phases c.AskFunction = answer s (reply.Function (p .function))
-obey s p next phases (c.SetFunction g) =
-    setPhaseTo s (withFunction p g) (judging.judgeFunction (isOperating (s .run)) g phases)
+obey s p next phases (c.SetFunction g) = setFunction s p g phases
 obey s p next phases c.Run = steer s (runOn (s .run))
 obey s p next phases (c.RunFrom n) = steer s (runFrom (s .run) n phases)
 obey s p next phases c.Stop = steer s (stopNow (s .run))

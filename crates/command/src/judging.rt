@@ -1,7 +1,7 @@
 // Whether a setting is accepted: first whether it applies now, then whether its data are in range.
 ghost use mathlib.Core.Path.{_≡_};
-ghost use Rattle.command.specs.Judging.{judgeIdle, judgeDiameter, judgeStored, judgeTuning, judgeVolume, judgeDirection};
-ghost use Rattle.command.specs.Judging.{judgePhase, judgeFunction, isOwn, unitOr, ifInRange};
+ghost use Rattle.command.specs.Judging.{judgeIdle, judgeDiameter, judgeStored, judgeTuning, judgeRate, judgeVolume};
+ghost use Rattle.command.specs.Judging.{judgeDirection, judgePhase, judgeFunction, isOwn, unitOr, ifInRange};
 use dispense::Rate;
 use drive::RateUnit;
 use engine::Run;
@@ -41,8 +41,8 @@ pub fn judge_stored(d: u16, hand: Phase, x: u32, units: Units) -> Verdict
     ensures { λ r. ⌜ r ≡ judgeStored d hand x units ⌝ }
 {
     let function = hand.function;
-    let unit = hand.unit;
     if function.is_flow() {
+        let unit = hand.unit;
         return if_in_range(drive::is_usable(d, x, unit_or(units, unit)));
     }
     if function.is_ramp() & is_own(units) {
@@ -58,14 +58,21 @@ pub fn judge_tuning(run: Run, d: u16, hand: Phase, next: Function, x: u32, units
     let function = hand.function;
     let place = run.place;
     let work = place.work;
-    let rate = run.rate;
     if function.is_flow() & work.is_visiting() & !next.is_ramp() & is_own(units) {
-        match rate {
-            Rate::NoRate => return Verdict::NotApplicable,
-            Rate::Current(unit, _) => return if_in_range(drive::is_usable(d, x, unit)),
-        }
+        let rate = run.rate;
+        return judge_rate(d, x, rate);
     }
     Verdict::NotApplicable
+}
+
+// A current rate has its units already, and the new one must be usable in them.
+fn judge_rate(d: u16, x: u32, rate: Rate) -> Verdict
+    ensures { λ r. ⌜ r ≡ judgeRate d x rate ⌝ }
+{
+    match rate {
+        Rate::NoRate => Verdict::NotApplicable,
+        Rate::Current(unit, _) => if_in_range(drive::is_usable(d, x, unit)),
+    }
 }
 
 // VOL

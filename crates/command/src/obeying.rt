@@ -1,8 +1,8 @@
 // One command, with the phase in hand, the function of the phase one number higher, and the number of phases.
 ghost use mathlib.Core.Path.{_≡_};
 ghost use Prim.Native.Nat.{_≤_};
-ghost use Rattle.command.specs.Obeying.{answer, steer, decide, settle, setDiameter, setRate, tune, setPhaseTo, choose, clearTotal};
-ghost use Rattle.command.specs.Obeying.{reset, obey};
+ghost use Rattle.command.specs.Obeying.{answer, steer, decide, settle, setPhaseTo, setVolume, setDirection, setFunction};
+ghost use Rattle.command.specs.Obeying.{setDiameter, setRate, tune, choose, clearTotal, reset, obey};
 use crate::judging::Verdict;
 use crate::judging::judge_diameter;
 use crate::judging::judge_direction;
@@ -47,55 +47,44 @@ pub struct Obeyed {
     pub reply: Reply,
 }
 
+// What asks changes nothing, and neither does what cannot be read; every other command is carried out by a function of its own.
 pub fn obey(core: Core, hand: Phase, next: Function, phases: u8, command: Command) -> Obeyed
     requires { ⌜ core .run .place .current ≤ 100 ⌝ }
     ensures { λ r. ⌜ r ≡ obey core hand next phases command ⌝ }
 {
-    let run = core.run;
-    let syringe = core.syringe;
-    let ledger = core.ledger;
-    let operating = run.is_operating();
-    let function = hand.function;
-    let direction = hand.direction;
-    match command {
-        Command::Malformed => answer(core, Reply::Malformed),
-        Command::Status => answer(core, Reply::Status),
-        Command::AskDiameter => answer(core, Reply::Number(syringe.diameter as u32)),
-        Command::SetDiameter(x) => set_diameter(core, x),
-        Command::AskRate => answer(core, ask_rate(run, hand)),
-        Command::SetRate(x, units) => set_rate(core, hand, next, x, units),
-        Command::AskVolume => answer(core, ask_volume(syringe, hand)),
-        Command::SetVolume(x) => set_phase_to(
-            core,
-            with_volume(hand, x),
-            judge_volume(operating, hand),
-        ),
-        Command::AskDirection => answer(core, Reply::Direction(direction)),
-        Command::SetDirection(d) => set_phase_to(
-            core,
-            with_direction(hand, d),
-            judge_direction(operating, hand),
-        ),
-        Command::Reverse => set_phase_to(
-            core,
-            with_direction(hand, direction.reverse()),
-            judge_direction(operating, hand),
-        ),
-        Command::AskPhase => answer(core, ask_phase(run, core.chosen, phases)),
-        Command::SetPhase(n) => choose(core, n, phases),
-        Command::AskFunction => answer(core, Reply::Function(function)),
-        Command::SetFunction(f) => set_phase_to(
-            core,
-            with_function(hand, f),
-            judge_function(operating, f, phases),
-        ),
-        Command::Run => steer(core, run.run_on()),
-        Command::RunFrom(n) => steer(core, run.run_from(n, phases)),
-        Command::Stop => steer(core, run.stop_now()),
-        Command::AskDispensed => answer(core, ask_totals(ledger, syringe)),
-        Command::Clear(d) => clear_total(core, d),
-        Command::Reset => reset(core),
-    }
+    let reply = match command {
+        Command::Malformed => Reply::Malformed,
+        Command::Status => Reply::Status,
+        Command::AskDiameter => Reply::Number(core.syringe.diameter as u32),
+        Command::SetDiameter(x) => return set_diameter(core, x),
+        Command::AskRate => ask_rate(core.run, hand),
+        Command::SetRate(x, units) => return set_rate(core, hand, next, x, units),
+        Command::AskVolume => ask_volume(core.syringe, hand),
+        Command::SetVolume(x) => return set_volume(core, hand, x),
+        Command::AskDirection => {
+            let direction = hand.direction;
+            Reply::Direction(direction)
+        }
+        Command::SetDirection(d) => return set_direction(core, hand, d),
+        Command::Reverse => {
+            let direction = hand.direction;
+            return set_direction(core, hand, direction.reverse());
+        }
+        Command::AskPhase => ask_phase(core.run, core.chosen, phases),
+        Command::SetPhase(n) => return choose(core, n, phases),
+        Command::AskFunction => {
+            let function = hand.function;
+            Reply::Function(function)
+        }
+        Command::SetFunction(f) => return set_function(core, hand, f, phases),
+        Command::Run => return steer(core, core.run.run_on()),
+        Command::RunFrom(n) => return steer(core, core.run.run_from(n, phases)),
+        Command::Stop => return steer(core, core.run.stop_now()),
+        Command::AskDispensed => ask_totals(core.ledger, core.syringe),
+        Command::Clear(d) => return clear_total(core, d),
+        Command::Reset => return reset(core),
+    };
+    answer(core, reply)
 }
 
 // A reply, and nothing changed.
@@ -113,9 +102,8 @@ fn answer(core: Core, reply: Reply) -> Obeyed
 fn steer(core: Core, steered: Steered) -> Obeyed
     ensures { λ r. ⌜ r ≡ steer core steered ⌝ }
 {
-    let run = steered.run;
     let reply = steered.reply;
-    answer(core.with_run(run), reply)
+    answer(core.with_run(steered.run), reply)
 }
 
 // What is accepted changes the core and may edit the phases; what is not is told, and changes nothing.
@@ -139,11 +127,10 @@ fn settle(core: Core) -> Core
 {
     let run = core.run;
     let mode = run.mode;
-    match mode {
-        Mode::Stopped(_) => core,
-        Mode::Paused => core.with_run(run.stop()),
-        Mode::Running => core,
+    if let Mode::Paused = mode {
+        return core.with_run(run.stop());
     }
+    core
 }
 
 // VOL, DIR and FUN: the phase in hand as the setting makes it.
@@ -153,12 +140,35 @@ fn set_phase_to(core: Core, phase: Phase, verdict: Verdict) -> Obeyed
     decide(core, settle(core), Edit::Write(phase), verdict)
 }
 
+// VOL
+fn set_volume(core: Core, hand: Phase, x: u32) -> Obeyed
+    ensures { λ r. ⌜ r ≡ setVolume core hand x ⌝ }
+{
+    let verdict = judge_volume(core.run.is_operating(), hand);
+    set_phase_to(core, with_volume(hand, x), verdict)
+}
+
+// DIR
+fn set_direction(core: Core, hand: Phase, direction: Direction) -> Obeyed
+    ensures { λ r. ⌜ r ≡ setDirection core hand direction ⌝ }
+{
+    let verdict = judge_direction(core.run.is_operating(), hand);
+    set_phase_to(core, with_direction(hand, direction), verdict)
+}
+
+// FUN
+fn set_function(core: Core, hand: Phase, function: Function, phases: u8) -> Obeyed
+    ensures { λ r. ⌜ r ≡ setFunction core hand function phases ⌝ }
+{
+    let verdict = judge_function(core.run.is_operating(), function, phases);
+    set_phase_to(core, with_function(hand, function), verdict)
+}
+
 // DIA
 fn set_diameter(core: Core, x: u32) -> Obeyed
     ensures { λ r. ⌜ r ≡ setDiameter core x ⌝ }
 {
-    let run = core.run;
-    let verdict = judge_diameter(run.is_operating(), x);
+    let verdict = judge_diameter(core.run.is_operating(), x);
     let mut after = settle(core);
     if x <= drive::MOST_DIAMETER as u32 {
         let d = x as u16;
@@ -171,14 +181,12 @@ fn set_diameter(core: Core, x: u32) -> Obeyed
 fn set_rate(core: Core, hand: Phase, next: Function, x: u32, units: Units) -> Obeyed
     ensures { λ r. ⌜ r ≡ setRate core hand next x units ⌝ }
 {
-    let run = core.run;
-    let d = core.syringe.diameter;
-    let unit = hand.unit;
-    if run.is_operating() {
-        let verdict = judge_tuning(run, d, hand, next, x, units);
-        return decide(core, core.with_run(tune(run, x)), Edit::Keep, verdict);
+    if core.run.is_operating() {
+        let verdict = judge_tuning(core.run, core.syringe.diameter, hand, next, x, units);
+        return decide(core, core.with_run(tune(core.run, x)), Edit::Keep, verdict);
     }
-    let verdict = judge_stored(d, hand, x, units);
+    let verdict = judge_stored(core.syringe.diameter, hand, x, units);
+    let unit = hand.unit;
     set_phase_to(core, with_stored(hand, x, unit_or(units, unit)), verdict)
 }
 
@@ -187,36 +195,30 @@ fn tune(run: Run, x: u32) -> Run
     ensures { λ r. ⌜ r ≡ tune run x ⌝ }
 {
     let rate = run.rate;
-    match rate {
-        Rate::NoRate => run,
-        Rate::Current(unit, _) => run.with_rate(Rate::Current(unit, x)),
+    if let Rate::Current(unit, _) = rate {
+        return run.with_rate(Rate::Current(unit, x));
     }
+    run
 }
 
 // PHN keeps a pause.
 fn choose(core: Core, n: u8, phases: u8) -> Obeyed
     ensures { λ r. ⌜ r ≡ choose core n phases ⌝ }
 {
-    let run = core.run;
+    let verdict = judge_phase(core.run.is_operating(), n, phases);
     let mut after = core;
     after.chosen = n;
-    decide(
-        core,
-        after,
-        Edit::Keep,
-        judge_phase(run.is_operating(), n, phases),
-    )
+    decide(core, after, Edit::Keep, verdict)
 }
 
 // CLD keeps a pause.
 fn clear_total(core: Core, direction: Direction) -> Obeyed
     ensures { λ r. ⌜ r ≡ clearTotal core direction ⌝ }
 {
-    let run = core.run;
-    let ledger = core.ledger;
+    let verdict = judge_idle(core.run.is_operating());
     let mut after = core;
-    after.ledger = ledger.clear(direction);
-    decide(core, after, Edit::Keep, judge_idle(run.is_operating()))
+    after.ledger = core.ledger.clear(direction);
+    decide(core, after, Edit::Keep, verdict)
 }
 
 // *RESET

@@ -1,16 +1,23 @@
 -- RUN, STP, the status and a cleared alarm, by the mode and the work that they find.
 -- Assumes nothing.
-use mathlib.Core.Path.{_≡_, sym, ap, _∙_}
+use mathlib.Core.Path.{_≡_, refl, sym, ap, _∙_}
+use mathlib.Core.Bool.{true}
+use mathlib.Core.List.{[], _∷_}
+use denote.Enum.Declared.{tagOf}
+use types.Run.{OneOf, miss}
+use Rattle.base.proofs.Choices.{false-true}
 use Rattle.words.specs.declared.answers.Status.{Status}
 use Rattle.words.specs.declared.phases.Direction.{Direction}
 use Rattle.engine.specs.Control.{accept, runBy, runOn, stopBy, stopNow}
-use Rattle.engine.specs.Runs.{withMode, calm, clearAlarm}
+use Rattle.engine.specs.Runs.{withMode, isRunning, calm, clearAlarm}
+use Rattle.engine.specs.Sound.{isSoundMode}
 use Rattle.engine.specs.Statuses.{statusBy, statusByWork, statusOf}
 use Rattle.engine.specs.declared.control.Steered.{Steered}
 use Rattle.engine.specs.declared.state.Mode.{Mode}
-use Rattle.engine.specs.declared.state.Mode.the-variants.{Running}
+use Rattle.engine.specs.declared.state.Mode.the-variants.{Stopped, Paused, Running}
 use Rattle.engine.specs.declared.state.Run.{Run}
 use Rattle.engine.specs.declared.state.Work.{Work}
+use Rattle.engine.proofs.state.Mode.{the-type}
 
 -- the accepted program is itself the result of a call
 pub accept-after : (r u : Run) (x : Steered) → x ≡ accept u → u ≡ r → x ≡ accept r
@@ -43,6 +50,17 @@ pub status-on :
     → x ≡ statusByWork way w
     → x ≡ statusOf r way
 status-on r way x w e k q = status-by r Running e way x (q ∙ ap (statusByWork way) (sym k))
+
+pub running : (m : Mode) → isRunning m ≡ true → m ≡ Running
+running (Stopped alarm) h = false-true h
+running Paused h = false-true h
+running Running h = refl
+
+-- only a stopped pump must have nothing under way
+pub sound-unless-stopped : (r : Run) (m : Mode) → OneOf (1 ∷ 2 ∷ []) (tagOf the-type m) → true ≡ isSoundMode r m
+sound-unless-stopped r (Stopped alarm) j = absurd (miss (1 ∷ 2 ∷ []) 0 tt j)
+sound-unless-stopped r Paused j = refl
+sound-unless-stopped r Running j = refl
 
 pub ruleset modes = (accept-after, runs-by, stops-by)
 

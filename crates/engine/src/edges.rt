@@ -3,7 +3,6 @@ ghost use mathlib.Core.Path.{_≡_};
 ghost use Prim.Native.Nat.{_≤_};
 ghost use Rattle.engine.specs.Edges.{pinTwo, footSwitch, pinFour, spring, pinSix};
 use crate::state::Core;
-use crate::state::Mode;
 use crate::state::Pending;
 use crate::state::Run;
 use crate::state::Trap;
@@ -17,8 +16,7 @@ impl Core {
         let before = self.pins.two;
         self.pins.two = level;
         if before & !level {
-            let run = self.run;
-            return self.with_run(run.foot_switch());
+            return self.with_run(self.run.foot_switch());
         }
         self
     }
@@ -30,8 +28,7 @@ impl Core {
         let before = self.pins.four;
         self.pins.four = level;
         if before & !level {
-            let run = self.run;
-            return self.with_run(run.spring());
+            return self.with_run(self.run.spring());
         }
         self
     }
@@ -67,15 +64,13 @@ impl Run {
     fn spring(self) -> Run
         ensures { λ r. ⌜ r ≡ spring self ⌝ }
     {
-        let mode = self.mode;
         let trap = self.trap;
-        match mode {
-            Mode::Stopped(_) => self,
-            Mode::Paused => self,
-            Mode::Running => match trap {
-                Trap::NoTrap => self,
-                Trap::Armed(n) => self.fire(n),
-            },
+        let Trap::Armed(n) = trap else {
+            return self;
+        };
+        if self.is_operating() {
+            return self.fire(n);
         }
+        self
     }
 }

@@ -90,13 +90,11 @@ impl Run {
         requires { ⌜ self .place .current ≤ 100 ⌝ }
         ensures { λ r. ⌜ r ≡ startLoop self ⌝ }
     {
-        let loops = self.loops;
-        let began = loops.lps(self.place.current);
+        let began = self.loops.lps(self.place.current);
         if began.full {
             return self.raise(Alarm::Program);
         }
-        let after = began.loops;
-        self.with_loops(after).go_on()
+        self.with_loops(began.loops).go_on()
     }
 
     // LOP n
@@ -104,10 +102,8 @@ impl Run {
         requires { ⌜ Turning (self .loops) (self .place .current) ⌝ }
         ensures { λ r. ⌜ r ≡ passLoop self n ⌝ }
     {
-        let loops = self.loops;
-        let turn = loops.lop(n, self.place.current);
-        let after = turn.loops;
-        self.with_loops(after).go_to(turn.next)
+        let turn = self.loops.lop(n, self.place.current);
+        self.with_loops(turn.loops).go_to(turn.next)
     }
 
     // LPE
@@ -115,10 +111,8 @@ impl Run {
         requires { ⌜ Turning (self .loops) (self .place .current) ⌝ }
         ensures { λ r. ⌜ r ≡ endLoop self ⌝ }
     {
-        let loops = self.loops;
-        let turn = loops.lpe();
-        let after = turn.loops;
-        self.with_loops(after).go_to(turn.next)
+        let turn = self.loops.lpe();
+        self.with_loops(turn.loops).go_to(turn.next)
     }
 
     // IF n: pin 6 low jumps.

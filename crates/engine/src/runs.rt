@@ -89,8 +89,7 @@ impl Run {
         requires { ⌜ self .place .current ≤ 100 ⌝ }
         ensures { λ r. ⌜ r ≡ goOn self ⌝ }
     {
-        let n = self.place.current;
-        self.go_to(n + 1)
+        self.go_to(self.place.current + 1)
     }
 
     // Operating means I, W, T or U.

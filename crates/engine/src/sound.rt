@@ -18,7 +18,6 @@ impl Core {
     {
         let d = self.syringe.diameter as u32;
         let run = self.run;
-        let ledger = self.ledger;
         let place = run.place;
         let work = place.work;
         let rate = run.rate;
@@ -26,7 +25,7 @@ impl Core {
             & decimal::is_writable(d)
             & (1 <= self.chosen)
             & (self.chosen <= phases)
-            & ledger.is_sound()
+            & self.ledger.is_sound()
             & run.is_sound(phases)
             & work.is_sound(self.syringe.diameter, here, rate)
     }
@@ -39,13 +38,12 @@ impl Run {
     {
         let rate = self.rate;
         let trap = self.trap;
-        let loops = self.loops;
         let n = self.place.current;
         (1 <= n)
             & (n <= phases + 1)
             & (rate.thousandths() <= decimal::MOST)
             & trap.is_sound(phases)
-            & loops.is_sound(phases)
+            & self.loops.is_sound(phases)
             & self.is_sound_mode()
     }
 
@@ -54,17 +52,14 @@ impl Run {
         ensures { λ r. ⌜ r ≡ isSoundMode self (self .mode) ⌝ }
     {
         let mode = self.mode;
-        match mode {
-            Mode::Stopped(_) => {
-                let place = self.place;
-                let work = place.work;
-                let trap = self.trap;
-                let rate = self.rate;
-                work.is_entering() & trap.is_no_trap() & (self.loops.count == 0) & rate.is_no_rate()
-            }
-            Mode::Paused => true,
-            Mode::Running => true,
-        }
+        let Mode::Stopped(_) = mode else {
+            return true;
+        };
+        let place = self.place;
+        let work = place.work;
+        let trap = self.trap;
+        let rate = self.rate;
+        work.is_entering() & trap.is_no_trap() & (self.loops.count == 0) & rate.is_no_rate()
     }
 }
 

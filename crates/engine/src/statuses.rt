@@ -34,9 +34,8 @@ impl Core {
     pub fn in_hand(self) -> u8
         ensures { λ r. ⌜ r ≡ inHand self ⌝ }
     {
-        let run = self.run;
-        if run.is_operating() {
-            return run.place.current;
+        if self.run.is_operating() {
+            return self.run.place.current;
         }
         self.chosen
     }

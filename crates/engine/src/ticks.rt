@@ -3,7 +3,6 @@ ghost use mathlib.Core.Path.{_≡_};
 ghost use Rattle.engine.specs.Sound.{Ready, Enterable};
 ghost use Rattle.engine.specs.Ticks.{outputAfter, entered, worked, silent, tickOf};
 use crate::state::Core;
-use crate::state::Mode;
 use crate::state::Work;
 use crate::working::Given;
 use words::Direction;
@@ -24,24 +23,21 @@ impl Core {
         requires { ⌜ Ready phases self here ⌝ }
         ensures { λ r. ⌜ r ≡ tickOf self here ⌝ }
     {
-        let run = self.run;
-        let place = run.place;
-        let mode = run.mode;
+        if !self.run.is_operating() {
+            return self.silent();
+        }
+        let place = self.run.place;
         let work = place.work;
-        let ledger = self.ledger;
         let direction = here.direction;
-        match mode {
-            Mode::Stopped(_) => self.silent(),
-            Mode::Paused => self.silent(),
-            Mode::Running => match work {
-                Work::Entering => self.entered(here),
-                Work::Visiting(visit) => self.worked(
-                    direction,
-                    run.work_visit(ledger, self.syringe.diameter, direction, visit),
-                ),
-                Work::Pausing(left) => self.with_run(run.work_pause(left)).silent(),
-                Work::Waiting => self.silent(),
-            },
+        match work {
+            Work::Entering => self.entered(here),
+            Work::Visiting(visit) => self.worked(
+                direction,
+                self.run
+                    .work_visit(self.ledger, self.syringe.diameter, direction, visit),
+            ),
+            Work::Pausing(left) => self.with_run(self.run.work_pause(left)).silent(),
+            Work::Waiting => self.silent(),
         }
     }
 
@@ -51,9 +47,7 @@ impl Core {
         ensures { λ r. ⌜ r ≡ entered self here ⌝ }
     {
         let function = here.function;
-        let run = self.run;
-        let pins = self.pins;
-        let after = run.enter(pins, self.syringe.diameter, here);
+        let after = self.run.enter(self.pins, self.syringe.diameter, here);
         let output = output_after(function, self.output);
         self.run = after;
         self.output = output;

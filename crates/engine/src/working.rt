@@ -52,16 +52,13 @@ impl Run {
         requires { ⌜ Giving self ledger d direction visit hourly ⌝ }
         ensures { λ r. ⌜ r ≡ giveSteps self ledger d direction visit hourly ⌝ }
     {
-        let v = drive::step_volume(d);
         let worked = visit.work(hourly, drive::step_threshold(d));
-        let after = worked.visit;
-        let steps = worked.steps;
-        let dose = steps * v;
+        let dose = worked.steps * drive::step_volume(d);
         if ledger.total_of(direction) + dose <= dispense::MOST_TOTAL {
             return Given {
-                run: self.after_visit(after),
+                run: self.after_visit(worked.visit),
                 ledger: ledger.book(direction, dose),
-                steps: steps as u8,
+                steps: worked.steps as u8,
             };
         }
         Given {

@@ -11,7 +11,7 @@ use Rattle.base.specs.If.{if_then_else_}
 use Rattle.decimal.specs.Short.{oneOf, twoOf, tenthsOf}
 use Rattle.decimal.specs.declared.short.Short.{Short}
 use Rattle.decimal.specs.declared.short.Short.the-variants.{Digits, NoDigits}
-use Rattle.words.specs.Functions.{number}
+use Rattle.words.specs.Functions.{number, takesPhase, isOut}
 use Rattle.words.specs.Spelling.{functionName}
 use Rattle.words.specs.declared.functions.Function.{Function}
 use Rattle.words.specs.declared.functions.Function.the-variants as f
@@ -27,35 +27,15 @@ use Rattle.line.specs.declared.functions.Called.the-variants.{By, NoFunc
 use Rattle.words.specs.declared.commands.Command.{Command}
 use Rattle.words.specs.declared.commands.Command.the-variants as c
 
--- ---- the datum that a function takes, by its number
-pub width-is : (g : Function) → length (functionName g) ≡ (if eqb (number g) 10 then 2 else 3)
-width-is f.Rat = refl
-width-is f.Inc = refl
-width-is f.Dec = refl
-width-is f.Stp = refl
-width-is (f.Jmp k) = refl
-width-is (f.Lop k) = refl
-width-is f.Lps = refl
-width-is f.Lpe = refl
-width-is (f.Pas k) = refl
-width-is (f.Tenths k) = refl
-width-is (f.If k) = refl
-width-is (f.Evn k) = refl
-width-is f.Evr = refl
-width-is f.Bep = refl
-width-is (f.Out k) = refl
-
-abbrev takesDigits : ℕ → Bool
-takesDigits n = eqb n 4 || eqb n 5 || eqb n 10 || eqb n 11
-
+-- ---- the datum that a function takes, by its number and its kind
 datum-is :
     (g : Function) (s : List ℕ)
     → withDatum g s
-    ≡ (if takesDigits (number g)
+    ≡ (if takesPhase g || eqb (number g) 5
     then ifHeld g (twoOf s)
     else if eqb (number g) 8 || eqb (number g) 9
     then pauseAsked s
-    else if eqb (number g) 14
+    else if isOut g
     then ifHeld g (oneOf s)
     else unlessMore s (c.SetFunction g))
 datum-is f.Rat s = refl
@@ -74,20 +54,20 @@ datum-is f.Evr s = refl
 datum-is f.Bep s = refl
 datum-is (f.Out k) s = refl
 
-module _ (g : Function) (s : List ℕ) (n : ℕ) (a : n ≡ number g) (r : Command) where
-  pub by-digits : (u : Short) → takesDigits n ≡ true → u ≡ twoOf s → r ≡ ifHeld g u → r ≡ withDatum g s
-  by-digits u e p q = q ∙ ap (ifHeld g) p ∙ sym (datum-is g s ∙ simp (rw (a) at e))
+module _ (g : Function) (s : List ℕ) (n : ℕ) (a : n ≡ number g) (t : Bool) (b : t ≡ takesPhase g) (r : Command) where
+  pub by-digits : (u : Short) → (t || eqb n 5) ≡ true → u ≡ twoOf s → r ≡ ifHeld g u → r ≡ withDatum g s
+  by-digits u e p q = q ∙ ap (ifHeld g) p ∙ sym (datum-is g s ∙ simp (rw (a, b) at e))
 
-  module _ (e : takesDigits n ≡ false) where
+  module _ (e : (t || eqb n 5) ≡ false) where
     pub by-time : (eqb n 8 || eqb n 9) ≡ true → r ≡ pauseAsked s → r ≡ withDatum g s
-    by-time t q = q ∙ sym (datum-is g s ∙ simp (rw (a) at e, rw (a) at t))
+    by-time h q = q ∙ sym (datum-is g s ∙ simp (rw (a, b) at e, rw (a) at h))
 
-    module _ (o : (eqb n 8 || eqb n 9) ≡ false) where
-      pub by-level : (u : Short) → n ≡ 14 → u ≡ oneOf s → r ≡ ifHeld g u → r ≡ withDatum g s
-      by-level u t p q = q ∙ ap (ifHeld g) p ∙ sym (datum-is g s ∙ simp (rw (a) at e, rw (a) at o, eq-eqb _ _ (rw (a) at t)))
+    module _ (o : (eqb n 8 || eqb n 9) ≡ false) (l : Bool) (m : l ≡ isOut g) where
+      pub by-level : (u : Short) → l ≡ true → u ≡ oneOf s → r ≡ ifHeld g u → r ≡ withDatum g s
+      by-level u h p q = q ∙ ap (ifHeld g) p ∙ sym (datum-is g s ∙ simp (rw (a, b) at e, rw (a) at o, sym m ∙ h))
 
-      pub by-nothing : (n ≡ 14 → ⊥) → r ≡ unlessMore s (c.SetFunction g) → r ≡ withDatum g s
-      by-nothing t q = q ∙ sym (datum-is g s ∙ simp (rw (a) at e, rw (a) at o, ne-eqb _ _ (rw (a) at t)))
+      pub by-nothing : l ≡ false → r ≡ unlessMore s (c.SetFunction g) → r ≡ withDatum g s
+      by-nothing h q = q ∙ sym (datum-is g s ∙ simp (rw (a, b) at e, rw (a) at o, sym m ∙ h))
 
 pub ruleset data-taken = (by-digits, by-time, by-level, by-nothing)
 
@@ -136,17 +116,16 @@ module _ (s : List ℕ) where
   unfolding commandOf
   asks-status e = sym (simp (eq-eqb (length s) 0 e))
 
-pub by-name :
-    (name : Name) (s rest : List ℕ) (m : Name) (r : Command)
-    → (length s ≡ 0 → ⊥)
-    → rest ≡ argumentOf s
-    → m ≡ nameOf s
-    → m ≡ name
-    → r ≡ askedBy name rest
-    → r ≡ commandOf s
-unfolding commandOf
-by-name name s rest m r o p q e k =
-    k ∙ ap (askedBy name) p ∙ ap (λ (v : Name). askedBy v (argumentOf s)) (sym e ∙ q) ∙ sym (simp (ne-eqb (length s) 0 o))
+  pub asks-by-name :
+      (rest : List ℕ) (m : Name) (r : Command)
+      → (length s ≡ 0 → ⊥)
+      → m ≡ nameOf s
+      → rest ≡ argumentOf s
+      → r ≡ askedBy m rest
+      → r ≡ commandOf s
+  unfolding commandOf
+  asks-by-name rest m r o p q k =
+      k ∙ ap (askedBy m) q ∙ ap (λ (v : Name). askedBy v (argumentOf s)) p ∙ sym (simp (ne-eqb (length s) 0 o))
 
-pub no-name : (s : List ℕ) (m : Name) → (length s ≡ 0 → ⊥) → m ≡ nameOf s → m ≡ n.Unknown → c.Malformed ≡ commandOf s
-no-name s m o q e = by-name n.Unknown s (argumentOf s) m c.Malformed o refl q e refl
+pub by-name : (name m : Name) (rest : List ℕ) (r : Command) → m ≡ name → r ≡ askedBy name rest → r ≡ askedBy m rest
+by-name name m rest r e k = k ∙ ap (λ (v : Name). askedBy v rest) (sym e)

@@ -5,7 +5,7 @@ use mathlib.Core.Path.{_≡_, refl, sym, ap, subst, _∙_}
 use mathlib.Core.Bool.{Bool, true, false}
 use mathlib.Core.List.{List, [], _∷_}
 use native.Mathlib.Omega.{arith}
-use lib.ListN.{length, getD}
+use lib.ListN.{length, getD, take}
 use borrow.Author.Tests.{ne-eqb}
 use Rattle.base.specs.If.{if_then_else_}
 use Rattle.base.specs.Text.{text, letter}
@@ -17,15 +17,11 @@ use Rattle.line.specs.Spelling.{leads}
 use Rattle.line.specs.Functions.{functions, calledOf, calledBy, calledAmong}
 use Rattle.line.specs.declared.functions.Called.{Called}
 use Rattle.line.specs.declared.functions.Called.the-variants.{By, NoFunction}
-use Rattle.line.proofs.Leading.{leads-is, leads-within}
+use Rattle.line.proofs.Leading.{leads-is, leads-within, front-long, front-within, front-leads}
 
 -- ---- the letters that the code looks at leave one function to be tried
 abbrev Only : Function → List ℕ → Type 0
 Only g s = calledOf s ≡ calledBy g (functionName g) s
-
-pub only-rat : (t : List ℕ) → Only f.Rat (letter "R" ∷ t)
-unfolding calledOf leads
-only-rat t = refl
 
 pub only-inc : (t : List ℕ) → Only f.Inc (letter "I" ∷ letter "N" ∷ t)
 unfolding calledOf leads
@@ -51,25 +47,13 @@ pub only-lps : (b : ℕ) (t : List ℕ) → Only f.Lps (letter "L" ∷ b ∷ let
 unfolding calledOf leads
 only-lps b t = simp and-false
 
-pub only-lpe : (b : ℕ) (t : List ℕ) → Only f.Lpe (letter "L" ∷ b ∷ letter "E" ∷ t)
-unfolding calledOf leads
-only-lpe b t = simp and-false
-
 pub only-pas : (t : List ℕ) → Only (f.Pas 0) (letter "P" ∷ t)
 unfolding calledOf leads
 only-pas t = refl
 
-pub only-if : (t : List ℕ) → Only (f.If 0) (letter "I" ∷ letter "F" ∷ t)
-unfolding calledOf leads
-only-if t = refl
-
 pub only-evn : (b : ℕ) (t : List ℕ) → Only (f.Evn 0) (letter "E" ∷ b ∷ letter "N" ∷ t)
 unfolding calledOf leads
 only-evn b t = simp and-false
-
-pub only-evr : (b : ℕ) (t : List ℕ) → Only f.Evr (letter "E" ∷ b ∷ letter "R" ∷ t)
-unfolding calledOf leads
-only-evr b t = simp and-false
 
 pub only-bep : (t : List ℕ) → Only f.Bep (letter "B" ∷ t)
 unfolding calledOf leads
@@ -79,43 +63,30 @@ pub only-out : (t : List ℕ) → Only (f.Out 0) (letter "O" ∷ t)
 unfolding calledOf leads
 only-out t = refl
 
--- ---- letters that no name has there
-loop-unknown :
-    (s : List ℕ)
-    → getD s 0 0 ≡ letter "L"
-    → (getD s 2 0 ≡ letter "P" → ⊥)
-    → (getD s 2 0 ≡ letter "S" → ⊥)
-    → (getD s 2 0 ≡ letter "E" → ⊥)
-    → calledOf s ≡ NoFunction
+-- ---- and so do letters that are not those of the others
+loop-left :
+    (s : List ℕ) → getD s 0 0 ≡ letter "L" → (getD s 2 0 ≡ letter "P" → ⊥) → (getD s 2 0 ≡ letter "S" → ⊥) → Only f.Lpe s
 unfolding calledOf leads
-loop-unknown [] e p q r = refl
-loop-unknown (a ∷ []) e p q r = simp and-false
-loop-unknown (a ∷ b ∷ []) e p q r = simp (e, and-false)
-loop-unknown (a ∷ b ∷ c ∷ s) e p q r =
-    simp (e, ne-eqb c (letter "P") p, ne-eqb c (letter "S") q, ne-eqb c (letter "E") r, and-false)
+loop-left [] e p q = refl
+loop-left (a ∷ []) e p q = simp and-false
+loop-left (a ∷ b ∷ []) e p q = simp (e, and-false)
+loop-left (a ∷ b ∷ c ∷ s) e p q = simp (e, ne-eqb c (letter "P") p, ne-eqb c (letter "S") q, and-false)
 
-event-unknown :
-    (s : List ℕ) → getD s 0 0 ≡ letter "E" → (getD s 2 0 ≡ letter "N" → ⊥) → (getD s 2 0 ≡ letter "R" → ⊥) → calledOf s ≡ NoFunction
+event-left : (s : List ℕ) → getD s 0 0 ≡ letter "E" → (getD s 2 0 ≡ letter "N" → ⊥) → Only f.Evr s
 unfolding calledOf leads
-event-unknown [] e p q = refl
-event-unknown (a ∷ []) e p q = simp and-false
-event-unknown (a ∷ b ∷ []) e p q = simp (e, and-false)
-event-unknown (a ∷ b ∷ c ∷ s) e p q = simp (e, ne-eqb c (letter "N") p, ne-eqb c (letter "R") q, and-false)
+event-left [] e p = refl
+event-left (a ∷ []) e p = simp and-false
+event-left (a ∷ b ∷ []) e p = simp (e, and-false)
+event-left (a ∷ b ∷ c ∷ s) e p = simp (e, ne-eqb c (letter "N") p, and-false)
 
-second-unknown :
-    (s : List ℕ)
-    → getD s 0 0 ≡ letter "I"
-    → (getD s 1 0 ≡ letter "N" → ⊥)
-    → (getD s 1 0 ≡ letter "F" → ⊥)
-    → calledOf s ≡ NoFunction
+if-left : (s : List ℕ) → getD s 0 0 ≡ letter "I" → (getD s 1 0 ≡ letter "N" → ⊥) → Only (f.If 0) s
 unfolding calledOf leads
-second-unknown [] e p q = refl
-second-unknown (a ∷ []) e p q = simp and-false
-second-unknown (a ∷ b ∷ s) e p q = simp (e, ne-eqb b (letter "N") p, ne-eqb b (letter "F") q)
+if-left [] e p = refl
+if-left (a ∷ []) e p = simp and-false
+if-left (a ∷ b ∷ s) e p = simp (e, ne-eqb b (letter "N") p)
 
--- a letter that begins no function's name
+-- a letter that begins no function's name but RAT
 pub record NoFirst (a : ℕ) : Type 0 where
-  pub r : a ≡ letter "R" → ⊥
   pub i : a ≡ letter "I" → ⊥
   pub d : a ≡ letter "D" → ⊥
   pub s : a ≡ letter "S" → ⊥
@@ -126,12 +97,11 @@ pub record NoFirst (a : ℕ) : Type 0 where
   pub b : a ≡ letter "B" → ⊥
   pub o : a ≡ letter "O" → ⊥
 
-first-unknown : (s : List ℕ) → NoFirst (getD s 0 0) → calledOf s ≡ NoFunction
+rate-left : (s : List ℕ) → NoFirst (getD s 0 0) → Only f.Rat s
 unfolding calledOf leads
-first-unknown [] n = refl
-first-unknown (a ∷ s) n =
+rate-left [] n = refl
+rate-left (a ∷ s) n =
     simp (
-      ne-eqb a (letter "R") (n .r),
       ne-eqb a (letter "I") (n .i),
       ne-eqb a (letter "D") (n .d),
       ne-eqb a (letter "S") (n .s),
@@ -144,26 +114,32 @@ first-unknown (a ∷ s) n =
     )
 
 module _ (s : List ℕ) (a : ℕ) (d : a ≡ getD s 0 0) where
-  pub no-loop :
-      (c : ℕ)
-      → a ≡ letter "L"
-      → c ≡ getD s 2 0
-      → (c ≡ letter "P" → ⊥)
-      → (c ≡ letter "S" → ⊥)
-      → (c ≡ letter "E" → ⊥)
-      → NoFunction ≡ calledOf s
-  no-loop c e h p q r = sym (loop-unknown s (sym d ∙ e) (λ z. p (h ∙ z)) (λ z. q (h ∙ z)) (λ z. r (h ∙ z)))
+  pub only-lpe : (c : ℕ) → a ≡ letter "L" → c ≡ getD s 2 0 → (c ≡ letter "P" → ⊥) → (c ≡ letter "S" → ⊥) → Only f.Lpe s
+  only-lpe c e h p q = loop-left s (sym d ∙ e) (λ z. p (h ∙ z)) (λ z. q (h ∙ z))
 
-  pub no-event :
-      (c : ℕ) → a ≡ letter "E" → c ≡ getD s 2 0 → (c ≡ letter "N" → ⊥) → (c ≡ letter "R" → ⊥) → NoFunction ≡ calledOf s
-  no-event c e h p q = sym (event-unknown s (sym d ∙ e) (λ z. p (h ∙ z)) (λ z. q (h ∙ z)))
+  pub only-evr : (c : ℕ) → a ≡ letter "E" → c ≡ getD s 2 0 → (c ≡ letter "N" → ⊥) → Only f.Evr s
+  only-evr c e h p = event-left s (sym d ∙ e) (λ z. p (h ∙ z))
 
-  pub no-second :
-      (b : ℕ) → a ≡ letter "I" → b ≡ getD s 1 0 → (b ≡ letter "N" → ⊥) → (b ≡ letter "F" → ⊥) → NoFunction ≡ calledOf s
-  no-second b e h p q = sym (second-unknown s (sym d ∙ e) (λ z. p (h ∙ z)) (λ z. q (h ∙ z)))
+  pub only-if : (b : ℕ) → a ≡ letter "I" → b ≡ getD s 1 0 → (b ≡ letter "N" → ⊥) → Only (f.If 0) s
+  only-if b e h p = if-left s (sym d ∙ e) (λ z. p (h ∙ z))
 
-  pub no-first : NoFirst a → NoFunction ≡ calledOf s
-  no-first n = sym (first-unknown s (subst NoFirst d n))
+  pub only-rat : NoFirst a → Only f.Rat s
+  only-rat n = rate-left s (subst NoFirst d n)
+
+-- ---- a name is the front of its three places
+module _ (g : Function) (places : List ℕ) (n : ℕ) (p : take (length (functionName g)) places ≡ functionName g) (q : n ≡ length (functionName g)) where
+  pub name-there : n ≡ length (take n places)
+  name-there = front-long (functionName g) places n p q
+
+  pub name-within : n ≤ length places
+  name-within = front-within (functionName g) places n p q
+
+  module _ (s : List ℕ) (o : Only g s) (t : Bool) (e : t ≡ leads (take n places) s) where
+    pub called : t ≡ true → By g ≡ calledOf s
+    called h = sym (o ∙ simp (front-leads (functionName g) places n p q s t e ∙ h))
+
+    pub not-called : t ≡ false → NoFunction ≡ calledOf s
+    not-called h = sym (o ∙ simp (front-leads (functionName g) places n p q s t e ∙ h))
 
 -- ---- a function that is called is named at the front of the text
 among-leads : (gs : List Function) (s : List ℕ) (g : Function) → calledAmong gs s ≡ By g → leads (functionName g) s ≡ true

@@ -1,13 +1,13 @@
 -- A word at the front of a text, letter by letter: the loop of `leads`, and a letter past the end.
 -- Assumes nothing.
-use Prim.Native.Nat.{ℕ, _+_, _-_, _≤_, _<_}
+use Prim.Native.Nat.{ℕ, _+_, _-_, _≤_, _<_, min}
 use mathlib.Core.Path.{_≡_, refl, sym, ap, _∙_}
 use mathlib.Core.Bool.{Bool, true, false, _&&_}
 use mathlib.Core.List.{List, [], _∷_, _++_}
 use native.Mathlib.Numerals.{add-one}
 use native.Mathlib.Omega.{arith}
 use lib.Dec.{eqb}
-use lib.ListN.{length, getD, take, drop, length-drop, drop-of-length-le, List·getD-eq-default}
+use lib.ListN.{length, getD, take, drop, length-take, length-drop, drop-of-length-le, List·getD-eq-default}
 use lib.Seq.{drop-cons, take-all}
 use borrow.Author.Tests.{eq-eqb, ne-eqb, eqb-true}
 use Rattle.base.proofs.Choices.{and-left, and-right, false-true}
@@ -63,14 +63,29 @@ matched-all word s i m h = sym (sym (m .rest) ∙ ap (λ (t : List ℕ). leads t
 
 pub ruleset matching = (too-short, matched-none, matched-more, other-letter, matched-all)
 
--- a text of another length is another text
-pub is-word : (word s : List ℕ) (t : Bool) → length s ≡ length word → t ≡ leads word s → t ≡ isText word s
-unfolding isText
-is-word word s t e p = p ∙ sym (simp (eq-eqb (length s) (length word) e))
+-- a word in places that may be more than it needs: it is their front
+module _ (word places : List ℕ) (n : ℕ) (p : take (length word) places ≡ word) (q : n ≡ length word) where
+  front : take n places ≡ word
+  front = rw q p
 
-pub no-word : (word s : List ℕ) → (length s ≡ length word → ⊥) → false ≡ isText word s
-unfolding isText
-no-word word s n = sym (simp (ne-eqb (length s) (length word) n))
+  pub front-long : n ≡ length (take n places)
+  front-long = q ∙ ap length (sym front)
+
+  pub front-within : n ≤ length places
+  front-within = let h : n ≡ min n (length places) = simp length-take at front-long in omega arith
+
+  pub front-leads : (s : List ℕ) (t : Bool) → t ≡ leads (take n places) s → leads word s ≡ t
+  front-leads s t e = sym (e ∙ ap (λ (w : List ℕ). leads w s) front)
+
+-- a text of another length is another text
+module _ (word s : List ℕ) (l : length word ≡ 3) where
+  pub is-word : (t : Bool) → length s ≡ 3 → t ≡ leads word s → t ≡ isText word s
+  unfolding isText
+  is-word t e p = p ∙ sym (simp (eq-eqb (length s) (length word) (e ∙ sym l)))
+
+  pub no-word : (length s ≡ 3 → ⊥) → false ≡ isText word s
+  unfolding isText
+  no-word n = sym (simp (ne-eqb (length s) (length word) (λ e. n (e ∙ l))))
 
 -- past the end there is no letter
 pub no-letter : (s : List ℕ) (i : ℕ) → length s ≤ i → 0 ≡ getD s i 0

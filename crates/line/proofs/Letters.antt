@@ -1,5 +1,5 @@
--- What one or two letters of a text tell: where they are such that a question f has the same answer as a narrower one, g, whoever
--- knows the letters and the answer to g knows the answer to f.
+-- What one or two letters of a text tell: where a question f has the same answer as a narrower one, g, for every text that has these
+-- letters.
 -- Assumes nothing.
 use Prim.Native.Nat.{ℕ, _<_}
 use mathlib.Core.Path.{_≡_, sym, ap, _∙_}
@@ -26,44 +26,31 @@ third-is (a ∷ b ∷ c ∷ s) x z p e f = (b, (s, ap (λ (n : ℕ). n ∷ b ∷
 
 module _ {A : Type 0} (f g : List ℕ → A) where
   pub by-first :
-      (x : ℕ)
-      → 0 < x
-      → ((t : List ℕ) → f (x ∷ t) ≡ g (x ∷ t))
-      → (s : List ℕ) (a : ℕ) (r : A)
-      → a ≡ getD s 0 0
-      → a ≡ x
-      → r ≡ g s
-      → r ≡ f s
-  by-first x p same s a r d e q =
-      let k = first-is s x p (sym d ∙ e) in
-      q ∙ ap g (k .1) ∙ sym (same (k .0)) ∙ ap f (sym (k .1))
+      (x : ℕ) → 0 < x → ((t : List ℕ) → f (x ∷ t) ≡ g (x ∷ t)) → (s : List ℕ) (a : ℕ) → a ≡ getD s 0 0 → a ≡ x → f s ≡ g s
+  by-first x p same s a d e = let k = first-is s x p (sym d ∙ e) in ap f (k .1) ∙ same (k .0) ∙ ap g (sym (k .1))
 
   pub by-second :
       (x y : ℕ)
       → 0 < y
       → ((t : List ℕ) → f (x ∷ y ∷ t) ≡ g (x ∷ y ∷ t))
-      → (s : List ℕ) (a b : ℕ) (r : A)
+      → (s : List ℕ) (a b : ℕ)
       → a ≡ getD s 0 0
       → a ≡ x
       → b ≡ getD s 1 0
       → b ≡ y
-      → r ≡ g s
-      → r ≡ f s
-  by-second x y p same s a b r d e h i q =
-      let k = second-is s x y p (sym d ∙ e) (sym h ∙ i) in
-      q ∙ ap g (k .1) ∙ sym (same (k .0)) ∙ ap f (sym (k .1))
+      → f s ≡ g s
+  by-second x y p same s a b d e h i =
+      let k = second-is s x y p (sym d ∙ e) (sym h ∙ i) in ap f (k .1) ∙ same (k .0) ∙ ap g (sym (k .1))
 
   pub by-third :
       (x z : ℕ)
       → 0 < z
       → ((b : ℕ) (t : List ℕ) → f (x ∷ b ∷ z ∷ t) ≡ g (x ∷ b ∷ z ∷ t))
-      → (s : List ℕ) (a c : ℕ) (r : A)
+      → (s : List ℕ) (a c : ℕ)
       → a ≡ getD s 0 0
       → a ≡ x
       → c ≡ getD s 2 0
       → c ≡ z
-      → r ≡ g s
-      → r ≡ f s
-  by-third x z p same s a c r d e h i q =
-      let k = third-is s x z p (sym d ∙ e) (sym h ∙ i) in
-      q ∙ ap g (k .1 .1) ∙ sym (same (k .0) (k .1 .0)) ∙ ap f (sym (k .1 .1))
+      → f s ≡ g s
+  by-third x z p same s a c d e h i =
+      let k = third-is s x z p (sym d ∙ e) (sym h ∙ i) in ap f (k .1 .1) ∙ same (k .0) (k .1 .0) ∙ ap g (sym (k .1 .1))

@@ -5,7 +5,7 @@ use mathlib.Core.Path.{_≡_, refl, sym, ap, subst, _∙_}
 use mathlib.Core.Bool.{Bool, true, false}
 use mathlib.Core.List.{List, [], _∷_}
 use native.Mathlib.Omega.{arith}
-use lib.ListN.{length, getD}
+use lib.ListN.{length, getD, take}
 use borrow.Author.Tests.{ne-eqb}
 use Rattle.base.specs.If.{if_then_else_}
 use Rattle.base.specs.Text.{letter}
@@ -14,7 +14,7 @@ use Rattle.line.specs.Spelling.{leads}
 use Rattle.line.specs.Names.{names, nameOf, namedBy, nameAmong, lettersOf}
 use Rattle.line.specs.declared.names.Name.{Name}
 use Rattle.line.specs.declared.names.Name.the-variants.{Dia, Rat, Vol, Dir, Phn, Fun, Run, Stp, Dis, Cld, Reset, Unknown}
-use Rattle.line.proofs.Leading.{leads-is, leads-within}
+use Rattle.line.proofs.Leading.{leads-is, leads-within, front-leads}
 
 -- ---- the letters that the code looks at leave one name to be tried
 abbrev Only : Name → List ℕ → Type 0
@@ -48,10 +48,6 @@ pub only-rat : (t : List ℕ) → Only Rat (letter "R" ∷ letter "A" ∷ t)
 unfolding nameOf leads
 only-rat t = refl
 
-pub only-run : (t : List ℕ) → Only Run (letter "R" ∷ letter "U" ∷ t)
-unfolding nameOf leads
-only-run t = refl
-
 pub only-dia : (b : ℕ) (t : List ℕ) → Only Dia (letter "D" ∷ b ∷ letter "A" ∷ t)
 unfolding nameOf leads
 only-dia b t = simp and-false
@@ -60,31 +56,20 @@ pub only-dir : (b : ℕ) (t : List ℕ) → Only Dir (letter "D" ∷ b ∷ lette
 unfolding nameOf leads
 only-dir b t = simp and-false
 
-pub only-dis : (b : ℕ) (t : List ℕ) → Only Dis (letter "D" ∷ b ∷ letter "S" ∷ t)
+-- ---- and so do letters that are not those of the others
+dispensed-left :
+    (s : List ℕ) → getD s 0 0 ≡ letter "D" → (getD s 2 0 ≡ letter "A" → ⊥) → (getD s 2 0 ≡ letter "R" → ⊥) → Only Dis s
 unfolding nameOf leads
-only-dis b t = simp and-false
+dispensed-left [] e p q = refl
+dispensed-left (a ∷ []) e p q = simp and-false
+dispensed-left (a ∷ b ∷ []) e p q = simp and-false
+dispensed-left (a ∷ b ∷ c ∷ s) e p q = simp (e, ne-eqb c (letter "A") p, ne-eqb c (letter "R") q, and-false)
 
--- ---- letters that no name has there
-third-unknown :
-    (s : List ℕ)
-    → getD s 0 0 ≡ letter "D"
-    → (getD s 2 0 ≡ letter "A" → ⊥)
-    → (getD s 2 0 ≡ letter "R" → ⊥)
-    → (getD s 2 0 ≡ letter "S" → ⊥)
-    → nameOf s ≡ Unknown
+run-left : (s : List ℕ) → getD s 0 0 ≡ letter "R" → (getD s 1 0 ≡ letter "A" → ⊥) → Only Run s
 unfolding nameOf leads
-third-unknown [] e p q r = refl
-third-unknown (a ∷ []) e p q r = simp and-false
-third-unknown (a ∷ b ∷ []) e p q r = simp and-false
-third-unknown (a ∷ b ∷ c ∷ s) e p q r =
-    simp (e, ne-eqb c (letter "A") p, ne-eqb c (letter "R") q, ne-eqb c (letter "S") r, and-false)
-
-second-unknown :
-    (s : List ℕ) → getD s 0 0 ≡ letter "R" → (getD s 1 0 ≡ letter "A" → ⊥) → (getD s 1 0 ≡ letter "U" → ⊥) → nameOf s ≡ Unknown
-unfolding nameOf leads
-second-unknown [] e p q = refl
-second-unknown (a ∷ []) e p q = simp and-false
-second-unknown (a ∷ b ∷ s) e p q = simp (e, ne-eqb b (letter "A") p, ne-eqb b (letter "U") q)
+run-left [] e p = refl
+run-left (a ∷ []) e p = simp and-false
+run-left (a ∷ b ∷ s) e p = simp (e, ne-eqb b (letter "A") p)
 
 -- a letter that begins no name
 pub record NoFirst (a : ℕ) : Type 0 where
@@ -97,10 +82,10 @@ pub record NoFirst (a : ℕ) : Type 0 where
   pub c : a ≡ letter "C" → ⊥
   pub star : a ≡ letter "*" → ⊥
 
-first-unknown : (s : List ℕ) → NoFirst (getD s 0 0) → nameOf s ≡ Unknown
+none-left : (s : List ℕ) → NoFirst (getD s 0 0) → Only Unknown s
 unfolding nameOf leads
-first-unknown [] n = refl
-first-unknown (a ∷ s) n =
+none-left [] n = refl
+none-left (a ∷ s) n =
     simp (
       ne-eqb a (letter "D") (n .d),
       ne-eqb a (letter "R") (n .r),
@@ -113,22 +98,23 @@ first-unknown (a ∷ s) n =
     )
 
 module _ (s : List ℕ) (a : ℕ) (d : a ≡ getD s 0 0) where
-  pub no-third :
-      (c : ℕ)
-      → a ≡ letter "D"
-      → c ≡ getD s 2 0
-      → (c ≡ letter "A" → ⊥)
-      → (c ≡ letter "R" → ⊥)
-      → (c ≡ letter "S" → ⊥)
-      → Unknown ≡ nameOf s
-  no-third c e h p q r = sym (third-unknown s (sym d ∙ e) (λ z. p (h ∙ z)) (λ z. q (h ∙ z)) (λ z. r (h ∙ z)))
+  pub only-dis : (c : ℕ) → a ≡ letter "D" → c ≡ getD s 2 0 → (c ≡ letter "A" → ⊥) → (c ≡ letter "R" → ⊥) → Only Dis s
+  only-dis c e h p q = dispensed-left s (sym d ∙ e) (λ z. p (h ∙ z)) (λ z. q (h ∙ z))
 
-  pub no-second :
-      (b : ℕ) → a ≡ letter "R" → b ≡ getD s 1 0 → (b ≡ letter "A" → ⊥) → (b ≡ letter "U" → ⊥) → Unknown ≡ nameOf s
-  no-second b e h p q = sym (second-unknown s (sym d ∙ e) (λ z. p (h ∙ z)) (λ z. q (h ∙ z)))
+  pub only-run : (b : ℕ) → a ≡ letter "R" → b ≡ getD s 1 0 → (b ≡ letter "A" → ⊥) → Only Run s
+  only-run b e h p = run-left s (sym d ∙ e) (λ z. p (h ∙ z))
 
-  pub no-first : NoFirst a → Unknown ≡ nameOf s
-  no-first n = sym (first-unknown s (subst NoFirst d n))
+  pub only-unknown : NoFirst a → Only Unknown s
+  only-unknown n = none-left s (subst NoFirst d n)
+
+-- ---- a name's letters are the front of their six places
+module _ (n : Name) (places : List ℕ) (w : ℕ) (p : take (length (lettersOf n)) places ≡ lettersOf n) (q : w ≡ length (lettersOf n))
+    (s : List ℕ) (o : Only n s) (t : Bool) (e : t ≡ leads (take w places) s) where
+  pub named : t ≡ true → n ≡ nameOf s
+  named h = sym (o ∙ simp (front-leads (lettersOf n) places w p q s t e ∙ h))
+
+  pub not-named : t ≡ false → Unknown ≡ nameOf s
+  not-named h = sym (o ∙ simp (front-leads (lettersOf n) places w p q s t e ∙ h))
 
 -- ---- a name that leads a text is its name
 pub name-is : (n : Name) (s : List ℕ) → (n ≡ Unknown → ⊥) → leads (lettersOf n) s ≡ true → nameOf s ≡ n

@@ -38,7 +38,8 @@ use Rattle.line.specs.Arguments.{ifNumber, ifDigits, unlessMore, unitsOf
 use Rattle.line.specs.Arguments.{rateAsked, headingOf, directionAsked}
 use Rattle.line.specs.Functions.{calledOf, pauseBy, pauseAsked, withDatum, functionBy, functionAsked}
 use Rattle.line.proofs.Asking.{sets}
-use Rattle.line.proofs.Behind.{width-is, by-called}
+use Rattle.words.proofs.Names.{name-length-is}
+use Rattle.line.proofs.Behind.{by-called}
 
 -- ---- rates
 unit-length : (u : RateUnit) → length (rateUnitName u) ≡ 2
@@ -113,7 +114,7 @@ by-name f.Bep t = refl
 by-name (f.Out n) t = refl
 
 name-length : (g : Function) → 2 ≤ length (functionName g)
-name-length g = rw (width-is g) (go (eqb (number g) 10))
+name-length g = rw (name-length-is g) (go (eqb (number g) 10))
   where
     go : (t : Bool) → 2 ≤ (if t then 2 else 3)
     go true = omega arith

@@ -77,16 +77,16 @@ fn units_of(volume: u8, time: u8) -> Units
 {
     match volume {
         b'U' => match time {
-            b'M' => Units::Given(RateUnit::Um),
-            b'H' => Units::Given(RateUnit::Uh),
-            _ => Units::Own,
+            b'M' => return Units::Given(RateUnit::Um),
+            b'H' => return Units::Given(RateUnit::Uh),
+            _ => return Units::Own,
         },
         b'M' => match time {
-            b'M' => Units::Given(RateUnit::Mm),
-            b'H' => Units::Given(RateUnit::Mh),
-            _ => Units::Own,
+            b'M' => return Units::Given(RateUnit::Mm),
+            b'H' => return Units::Given(RateUnit::Mh),
+            _ => return Units::Own,
         },
-        _ => Units::Own,
+        _ => return Units::Own,
     }
 }
 
@@ -128,21 +128,28 @@ pub fn clear_asked(s: &[u8]) -> Command
     }
 }
 
-// The first letter tells which word it can be.
+// The words for a direction, and for the other one.
+const INF: [u8; 3] = *b"INF";
+
+const WDR: [u8; 3] = *b"WDR";
+
+const REV: [u8; 3] = *b"REV";
+
+// INF, WDR or REV, and no more. The first letter tells which word it can be.
 fn heading_of(s: &[u8]) -> Heading
     ensures { λ r. ⌜ r ≡ headingOf (now (s .entry)) ⌝ }
 {
     match letter(s, 0) {
-        b'I' => headed_by(Heading::To(Direction::Infuse), b"INF", s),
-        b'W' => headed_by(Heading::To(Direction::Withdraw), b"WDR", s),
-        b'R' => headed_by(Heading::Reverse, b"REV", s),
+        b'I' => headed_by(Heading::To(Direction::Infuse), INF, s),
+        b'W' => headed_by(Heading::To(Direction::Withdraw), WDR, s),
+        b'R' => headed_by(Heading::Reverse, REV, s),
         _ => Heading::NoHeading,
     }
 }
 
 // `heading` if `s` is its word.
-fn headed_by(heading: Heading, word: &[u8], s: &[u8]) -> Heading
-    ensures { λ r. ⌜ r ≡ headedBy heading (now (word .entry)) (now (s .entry)) ⌝ }
+fn headed_by(heading: Heading, word: [u8; 3], s: &[u8]) -> Heading
+    ensures { λ r. ⌜ r ≡ headedBy heading word (now (s .entry)) ⌝ }
 {
     if is_text(word, s) {
         return heading;

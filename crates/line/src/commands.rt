@@ -1,6 +1,6 @@
 // The command that a text asks for, malformed among them; data may be out of range here.
 ghost use mathlib.Core.Path.{_≡_};
-ghost use Rattle.line.specs.Commands.{commandOf};
+ghost use Rattle.line.specs.Commands.{askedBy, commandOf};
 use crate::arguments::clear_asked;
 use crate::arguments::diameter_asked;
 use crate::arguments::direction_asked;
@@ -22,8 +22,14 @@ pub fn command_of(s: &[u8]) -> Command
     if s.len() == 0 {
         return Command::Status;
     }
-    let rest = argument_of(s);
-    match name_of(s) {
+    asked_by(name_of(s), argument_of(s))
+}
+
+// What each name's argument asks for.
+fn asked_by(name: Name, rest: &[u8]) -> Command
+    ensures { λ r. ⌜ r ≡ askedBy name (now (rest .entry)) ⌝ }
+{
+    match name {
         Name::Dia => diameter_asked(rest),
         Name::Rat => rate_asked(rest),
         Name::Vol => volume_asked(rest),

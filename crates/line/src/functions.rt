@@ -1,6 +1,5 @@
 // What stands behind FUN: the name of a function, and its datum.
 ghost use mathlib.Core.Path.{_≡_};
-ghost use lib.ListN.{length};
 ghost use Rattle.words.specs.Spelling.{functionName};
 ghost use Rattle.line.specs.Functions.{calledOf, calledBy, holding, ifHeld, pauseAsked, withDatum, functionAsked};
 use crate::arguments::unless_more;
@@ -25,66 +24,54 @@ pub fn function_asked(s: &[u8]) -> Command
     }
     match called_in(s) {
         Called::By(f) => {
-            let n = width(f);
+            let n = f.name_length();
             with_datum(f, &s[n..])
         }
         Called::NoFunction => Command::Malformed,
     }
 }
 
-// The function whose name leads `s`. One or two letters tell which it can be; no name leads another.
+// The function whose name leads `s`.
 fn called_in(s: &[u8]) -> Called
     ensures { λ r. ⌜ r ≡ calledOf (now (s .entry)) ⌝ }
 {
-    let first = letter(s, 0);
-    let second = letter(s, 1);
-    let third = letter(s, 2);
-    match first {
-        b'R' => called_by(Function::Rat, b"RAT", s),
-        b'I' => match second {
-            b'N' => called_by(Function::Inc, b"INC", s),
-            b'F' => called_by(Function::If(0), b"IF", s),
-            _ => Called::NoFunction,
-        },
-        b'D' => called_by(Function::Dec, b"DEC", s),
-        b'S' => called_by(Function::Stp, b"STP", s),
-        b'J' => called_by(Function::Jmp(0), b"JMP", s),
-        b'L' => match third {
-            b'P' => called_by(Function::Lop(0), b"LOP", s),
-            b'S' => called_by(Function::Lps, b"LPS", s),
-            b'E' => called_by(Function::Lpe, b"LPE", s),
-            _ => Called::NoFunction,
-        },
-        b'P' => called_by(Function::Pas(0), b"PAS", s),
-        b'E' => match third {
-            b'N' => called_by(Function::Evn(0), b"EVN", s),
-            b'R' => called_by(Function::Evr, b"EVR", s),
-            _ => Called::NoFunction,
-        },
-        b'B' => called_by(Function::Bep, b"BEP", s),
-        b'O' => called_by(Function::Out(0), b"OUT", s),
-        _ => Called::NoFunction,
-    }
-}
-
-// `f` if its name leads `s`.
-fn called_by(f: Function, name: &[u8], s: &[u8]) -> Called
-    ensures { λ r. ⌜ r ≡ calledBy f (now (name .entry)) (now (s .entry)) ⌝ }
-{
-    if leads(name, s) {
+    let f = only_function(s);
+    let name = f.letters();
+    let n = f.name_length();
+    if leads(&name[..n], s) {
         return Called::By(f);
     }
     Called::NoFunction
 }
 
-// How many letters a function's name has: IF two, every other three.
-fn width(f: Function) -> usize
-    ensures { λ r. ⌜ r ≡ length (functionName f) ⌝ }
+// The only function whose name can lead `s`: up to three letters tell which, and letters that begin no name leave RAT.
+fn only_function(s: &[u8]) -> Function
+    ensures { λ r. ⌜ calledOf (now (s .entry)) ≡ calledBy r (functionName r) (now (s .entry)) ⌝ }
 {
-    if f.number() == 10 {
-        return 2;
+    let second = letter(s, 1);
+    let third = letter(s, 2);
+    match letter(s, 0) {
+        b'I' => match second {
+            b'N' => return Function::Inc,
+            _ => return Function::If(0),
+        },
+        b'D' => return Function::Dec,
+        b'S' => return Function::Stp,
+        b'J' => return Function::Jmp(0),
+        b'L' => match third {
+            b'P' => return Function::Lop(0),
+            b'S' => return Function::Lps,
+            _ => return Function::Lpe,
+        },
+        b'P' => return Function::Pas(0),
+        b'E' => match third {
+            b'N' => return Function::Evn(0),
+            _ => return Function::Evr,
+        },
+        b'B' => return Function::Bep,
+        b'O' => return Function::Out(0),
+        _ => return Function::Rat,
     }
-    3
 }
 
 // A function with what stands behind its name, if that is of the kind that the function takes.
@@ -92,13 +79,13 @@ fn with_datum(f: Function, s: &[u8]) -> Command
     ensures { λ r. ⌜ r ≡ withDatum f (now (s .entry)) ⌝ }
 {
     let n = f.number();
-    if (n == 4) | (n == 5) | (n == 10) | (n == 11) {
+    if f.takes_phase() | (n == 5) {
         return if_held(f, decimal::read_two(s));
     }
     if (n == 8) | (n == 9) {
         return pause_asked(s);
     }
-    if n == 14 {
+    if f.is_out() {
         return if_held(f, decimal::read_one(s));
     }
     unless_more(s, Command::SetFunction(f))

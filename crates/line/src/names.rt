@@ -1,6 +1,6 @@
 // The name that leads a text, and its argument: the rest of that text.
 ghost use mathlib.Core.Path.{_≡_};
-ghost use lib.ListN.{length};
+ghost use lib.ListN.{length, take};
 ghost use Rattle.line.specs.Names.{nameOf, namedBy, lettersOf, argumentOf};
 use crate::spelling::leads;
 use crate::spelling::letter;
@@ -21,43 +21,88 @@ pub enum Name {
     Unknown,
 }
 
-// The name that leads `s`. One or two letters tell which it can be; no name leads another.
+// The name that leads `s`.
 pub fn name_of(s: &[u8]) -> Name
     ensures { λ r. ⌜ r ≡ nameOf (now (s .entry)) ⌝ }
 {
-    let first = letter(s, 0);
-    let second = letter(s, 1);
-    let third = letter(s, 2);
-    match first {
-        b'D' => match third {
-            b'A' => named(Name::Dia, b"DIA", s),
-            b'R' => named(Name::Dir, b"DIR", s),
-            b'S' => named(Name::Dis, b"DIS", s),
-            _ => Name::Unknown,
-        },
-        b'R' => match second {
-            b'A' => named(Name::Rat, b"RAT", s),
-            b'U' => named(Name::Run, b"RUN", s),
-            _ => Name::Unknown,
-        },
-        b'V' => named(Name::Vol, b"VOL", s),
-        b'P' => named(Name::Phn, b"PHN", s),
-        b'F' => named(Name::Fun, b"FUN", s),
-        b'S' => named(Name::Stp, b"STP", s),
-        b'C' => named(Name::Cld, b"CLD", s),
-        b'*' => named(Name::Reset, b"*RESET", s),
-        _ => Name::Unknown,
-    }
-}
-
-// `name` if its letters lead `s`.
-fn named(name: Name, letters: &[u8], s: &[u8]) -> Name
-    ensures { λ r. ⌜ r ≡ namedBy name (now (letters .entry)) (now (s .entry)) ⌝ }
-{
-    if leads(letters, s) {
+    let name = only_name(s);
+    let places = letters(name);
+    let n = width(name);
+    if leads(&places[..n], s) {
         return name;
     }
     Name::Unknown
+}
+
+// The only name that can lead `s`: up to three letters tell which.
+fn only_name(s: &[u8]) -> Name
+    ensures { λ r. ⌜ nameOf (now (s .entry)) ≡ namedBy r (lettersOf r) (now (s .entry)) ⌝ }
+{
+    let second = letter(s, 1);
+    let third = letter(s, 2);
+    match letter(s, 0) {
+        b'D' => match third {
+            b'A' => return Name::Dia,
+            b'R' => return Name::Dir,
+            _ => return Name::Dis,
+        },
+        b'R' => match second {
+            b'A' => return Name::Rat,
+            _ => return Name::Run,
+        },
+        b'V' => return Name::Vol,
+        b'P' => return Name::Phn,
+        b'F' => return Name::Fun,
+        b'S' => return Name::Stp,
+        b'C' => return Name::Cld,
+        b'*' => return Name::Reset,
+        _ => return Name::Unknown,
+    }
+}
+
+// The names as they are sent, in six places.
+const DIA: [u8; 6] = *b"DIA   ";
+
+const RAT: [u8; 6] = *b"RAT   ";
+
+const VOL: [u8; 6] = *b"VOL   ";
+
+const DIR: [u8; 6] = *b"DIR   ";
+
+const PHN: [u8; 6] = *b"PHN   ";
+
+const FUN: [u8; 6] = *b"FUN   ";
+
+const RUN: [u8; 6] = *b"RUN   ";
+
+const STP: [u8; 6] = *b"STP   ";
+
+const DIS: [u8; 6] = *b"DIS   ";
+
+const CLD: [u8; 6] = *b"CLD   ";
+
+const RESET: [u8; 6] = *b"*RESET";
+
+const NO_NAME: [u8; 6] = *b"      ";
+
+// The letters of a name, blanks behind them.
+fn letters(name: Name) -> [u8; 6]
+    ensures { λ r. ⌜ take (length (lettersOf name)) r ≡ lettersOf name ⌝ }
+{
+    match name {
+        Name::Dia => DIA,
+        Name::Rat => RAT,
+        Name::Vol => VOL,
+        Name::Dir => DIR,
+        Name::Phn => PHN,
+        Name::Fun => FUN,
+        Name::Run => RUN,
+        Name::Stp => STP,
+        Name::Dis => DIS,
+        Name::Cld => CLD,
+        Name::Reset => RESET,
+        Name::Unknown => NO_NAME,
+    }
 }
 
 // How many letters a name has.

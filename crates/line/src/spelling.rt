@@ -21,11 +21,11 @@ pub fn leads(word: &[u8], s: &[u8]) -> bool
 }
 
 // Whether `s` is `word` and no more.
-pub fn is_text(word: &[u8], s: &[u8]) -> bool
-    ensures { λ r. ⌜ r ≡ isText (now (word .entry)) (now (s .entry)) ⌝ }
+pub fn is_text(word: [u8; 3], s: &[u8]) -> bool
+    ensures { λ r. ⌜ r ≡ isText word (now (s .entry)) ⌝ }
 {
-    if s.len() == word.len() {
-        return leads(word, s);
+    if s.len() == 3 {
+        return leads(&word, s);
     }
     false
 }

@@ -52,8 +52,8 @@ module _ (p : Pump) (few : phaseCount p ≤ 99) (e : isSoundPump p ≡ true) whe
       record { current-few = omega (arith, few, r .most); chosen-few = omega (arith, few, c .chosen-most) }
 
 -- another line changes nothing of that
-pub handy-line : (p q : Pump) (v : Device) (line : Line) → Handy p → v ≡ withLine (p .device) line → q ≡ withDevice p v → Handy q
-handy-line p q v line h k e = rw (e, k) (record { current-few = h .current-few; chosen-few = h .chosen-few })
+pub handy-line : (p : Pump) (v : Device) (line : Line) → Handy p → v ≡ withLine (p .device) line → Handy (withDevice p v)
+handy-line p v line h k = rw k (record { current-few = h .current-few; chosen-few = h .chosen-few })
 
 -- the phase in hand
 hand-few : (p : Pump) → Handy p → (b : Bool) → isOperating (p .device .core .run) ≡ b → inHand (p .device .core) ≤ 100
@@ -149,15 +149,13 @@ module _ (p : Pump) (pin level : ℕ) (r : Report) where
   no-level h q = q ∙ sym (simp (lt-ltb 1 level h))
 
   pub some-level :
-      (v : Device) (after : Pump)
+      (v : Device)
       → level ≤ 1
       → v ≡ edge (p .device) pin (eqb level 1)
-      → after ≡ withDevice p v
-      → r ≡ reported after 0
+      → r ≡ reported (withDevice p v) 0
       → r ≡ levelled p pin level
   unfolding levelled
-  some-level v after h k a q =
-      q ∙ ap (λ (x : Pump). reported x 0) (a ∙ ap (withDevice p) k) ∙ sym (simp (le-ltb 1 level h))
+  some-level v h k q = q ∙ ap (λ (x : Device). reported (withDevice p x) 0) k ∙ sym (simp (le-ltb 1 level h))
 
 -- ---- a whole line
 pub listened-as :
@@ -186,12 +184,12 @@ module _ (p : Pump) (t : Told) (buffer : List ℕ) (here : Phase) (x : Said)
   answered-written after q = q ∙ ap (λ (y : Said). bufferAfter 0 y buffer) said-is
 
 -- ---- a byte that was received
-module _ (p : Pump) (b : ℕ) (buffer : List ℕ) (a : Arrived) (v : Device) (held : Pump)
-    (k : a ≡ afterByte (p .device .line) b) (g : v ≡ withLine (p .device) (a .line)) (h : held ≡ withDevice p v) where
-  held-is : held ≡ calls.held p a
-  held-is = h ∙ ap (withDevice p) g
+module _ (p : Pump) (b : ℕ) (buffer : List ℕ) (a : Arrived) (v : Device)
+    (k : a ≡ afterByte (p .device .line) b) (g : v ≡ withLine (p .device) (a .line)) where
+  held-is : withDevice p v ≡ calls.held p a
+  held-is = ap (withDevice p) g
 
-  pub line-goes-on : (r : Report) → a .ended ≡ false → r ≡ reported held 0 → r ≡ received p b buffer
+  pub line-goes-on : (r : Report) → a .ended ≡ false → r ≡ reported (withDevice p v) 0 → r ≡ received p b buffer
   unfolding received
   line-goes-on r e q =
       q ∙ ap (λ (x : Pump). reported x 0) held-is ∙ sym (simp e) ∙ ap (λ (x : Arrived). calls.arrivedReport p x buffer) k
@@ -200,7 +198,7 @@ module _ (p : Pump) (b : ℕ) (buffer : List ℕ) (a : Arrived) (v : Device) (he
   unfolding receivedBuffer
   buffer-stays e = sym (simp e) ∙ ap (λ (x : Arrived). calls.arrivedBuffer p x buffer) k
 
-  module _ (l : Listened) (m : l ≡ afterLine held) (e : a .ended ≡ true) where
+  module _ (l : Listened) (m : l ≡ afterLine (withDevice p v)) (e : a .ended ≡ true) where
     listened-is : l ≡ afterLine (calls.held p a)
     listened-is = m ∙ ap afterLine held-is
 

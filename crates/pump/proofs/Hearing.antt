@@ -27,27 +27,22 @@ use Rattle.command.specs.declared.obeying.Obeyed.{Obeyed}
 use Rattle.line.specs.Lines.{emptyLine, addressIn, commandIn}
 use Rattle.line.specs.declared.lines.Line.{Line}
 use Rattle.pump.specs.Device as d
-use Rattle.pump.specs.Device.{withCore, withLine, edge, hearLine, ours, oursBy, obeyed, obeyedWith}
+use Rattle.pump.specs.Device.{withCore, withLine, edgeOf, hearLine, ours, oursBy, obeyed, obeyedWith}
 use Rattle.pump.specs.declared.device.Device.{Device}
 use Rattle.pump.specs.declared.device.Heard.{Heard}
 use Rattle.pump.specs.declared.device.Told.{Told}
 use Rattle.pump.specs.declared.device.Told.the-variants as told
 
 -- ---- an edge
-module _ (v : Device) (pin : ℕ) (high : Bool) (core : Core) (r : Device) (q : r ≡ withCore v core) where
-  pub edge-2 : pin ≡ 2 → core ≡ pinTwo (v .core) high → r ≡ edge v pin high
-  unfolding edge
-  edge-2 h k = q ∙ ap (withCore v) k ∙ sym (simp h)
+module _ (s : Core) (pin : ℕ) (high : Bool) (r : Core) where
+  pub edge-2 : pin ≡ 2 → r ≡ pinTwo s high → r ≡ edgeOf s pin high
+  edge-2 h q = q ∙ sym (simp h)
 
-  pub edge-4 : pin ≡ 4 → core ≡ pinFour (v .core) high → r ≡ edge v pin high
-  unfolding edge
-  edge-4 h k = q ∙ ap (withCore v) k ∙ sym (simp h)
+  pub edge-4 : pin ≡ 4 → r ≡ pinFour s high → r ≡ edgeOf s pin high
+  edge-4 h q = q ∙ sym (simp h)
 
-  pub edge-6 : (pin ≡ 2 → ⊥) → (pin ≡ 4 → ⊥) → core ≡ pinSix (v .core) high → r ≡ edge v pin high
-  unfolding edge
-  edge-6 a b k = q ∙ ap (withCore v) k ∙ sym (simp (ne-eqb pin 2 a, ne-eqb pin 4 b))
-
-pub ruleset edges = (edge-2, edge-4, edge-6)
+  pub edge-6 : (pin ≡ 2 → ⊥) → (pin ≡ 4 → ⊥) → r ≡ pinSix s high → r ≡ edgeOf s pin high
+  edge-6 a b q = q ∙ sym (simp (ne-eqb pin 2 a, ne-eqb pin 4 b))
 
 -- ---- a whole line
 module _ (v : Device) (hand : Phase) (next : Function) (phases : ℕ) where
@@ -68,16 +63,14 @@ module _ (v : Device) (hand : Phase) (next : Function) (phases : ℕ) where
   -- ---- a line of ours
   module _ (line : Line) (alarm : Pending) (e : alarm ≡ pending (v .core .run)) where
     pub heard-alarm :
-        (a : Alarm) (run : Run) (core : Core) (device : Device)
+        (a : Alarm) (run : Run) (core : Core)
         → alarm ≡ Raised a
         → run ≡ clearAlarm (v .core .run)
         → core ≡ withRun (v .core) run
-        → device ≡ withCore v core
-        → record { device = device; edit = Keep; told = told.Alarm a } ≡ ours v line hand next phases
+        → record { device = withCore v core; edit = Keep; told = told.Alarm a } ≡ ours v line hand next phases
     unfolding ours
-    heard-alarm a run core device k h i j =
-        ap (λ (x : Device). record { device = x; edit = Keep; told = told.Alarm a })
-        (j ∙ ap (withCore v) (i ∙ ap (withRun (v .core)) h))
+    heard-alarm a run core k h i =
+        ap (λ (x : Core). record { device = withCore v x; edit = Keep; told = told.Alarm a }) (i ∙ ap (withRun (v .core)) h)
         ∙ ap (oursBy v line hand next phases) (sym k ∙ e)
 
     pub heard-command : (r : Heard) → alarm ≡ NoAlarm → r ≡ obeyed v line hand next phases → r ≡ ours v line hand next phases

@@ -1,19 +1,11 @@
 // The calls: a byte, a pin level, a tick. Each tests the whole state first; no call has a precondition.
-ghost use mathlib.Core.Bool.{true};
 ghost use mathlib.Core.Path.{_≡_};
-ghost use Rattle.base.specs.If.{if_then_else_};
-ghost use Rattle.engine.specs.Sound.{Ready};
-ghost use Rattle.engine.specs.Ticks.{silent, tickOf};
-ghost use Rattle.pump.specs.Holder.{modelPhases};
 ghost use Rattle.pump.specs.Calls.{Handy, tickCall, pinCall, levelled, byteReport, byteBuffer, received, receivedBuffer};
 ghost use Rattle.pump.specs.Calls.{afterLine, answered, answeredBuffer};
 use crate::device::Told;
 use crate::holder::Pump;
 use crate::reports::Refusal;
 use crate::reports::Report;
-use engine::Core;
-use engine::Moved;
-use words::Phase;
 
 // The pump after a whole line, and what is told.
 pub struct Listened {
@@ -27,11 +19,12 @@ impl Pump {
         ensures { λ r. ⌜ r ≡ tickCall self ⌝ }
     {
         let checked = self.checked();
-        let device = self.device;
-        let core = device.core;
-        let here = checked.here;
-        let sound = checked.sound;
-        self.moved_by(ticked(core, here, sound), Refusal::unless(sound))
+        let moved = if checked.sound {
+            self.device.core.tick(checked.here, Pump::PHASES)
+        } else {
+            self.device.core.silent()
+        };
+        self.moved_by(moved, Refusal::unless(checked.sound))
     }
 
     // A level of pin 2, 4 or 6: 0 is low, 1 is high.
@@ -60,52 +53,49 @@ impl Pump {
         self.refused(Refusal::Unsound)
     }
 
-    fn levelled(self, pin: u8, level: u8) -> Report
+    // The pin is one of the three; a level that is neither 0 nor 1 is refused.
+    fn levelled(mut self, pin: u8, level: u8) -> Report
         requires { ⌜ Handy self ⌝ }
         ensures { λ r. ⌜ r ≡ levelled self pin level ⌝ }
     {
         if 1 < level {
             return self.refused(Refusal::NoLevel);
         }
-        let device = self.device;
-        self.with_device(device.edge(pin, level == 1)).reported(0)
+        self.device = self.device.edge(pin, level == 1);
+        self.reported(0)
     }
 
-    fn received(self, b: u8, out: &mut [u8]) -> Report
+    // The byte goes to the line, and a line that it ends is answered.
+    fn received(mut self, b: u8, out: &mut [u8]) -> Report
         requires { ⌜ Handy self ⌝ }
         ensures { λ r. ⌜ (r ≡ received self b (now (out .entry))) × (now (out .exit) ≡ receivedBuffer self b (now (out .entry))) ⌝ }
     {
-        let device = self.device;
-        let line = device.line;
-        let arrived = line.after(b);
-        let after = arrived.line;
-        let held = self.with_device(device.with_line(after));
+        let arrived = self.device.line.after(b);
+        self.device = self.device.with_line(arrived.line);
         if arrived.ended {
-            let listened = held.after_line();
-            let pump = listened.pump;
+            let listened = self.after_line();
             let told = listened.told;
-            return pump.answered(told, out);
+            return listened.pump.answered(told, out);
         }
-        held.reported(0)
+        self.reported(0)
     }
 
     // The whole line is the one that the device holds: the phases that it may concern are looked up, and the edit is stored.
-    fn after_line(self) -> Listened
+    fn after_line(mut self) -> Listened
         requires { ⌜ Handy self ⌝ }
         ensures { λ r. ⌜ r ≡ afterLine self ⌝ }
     {
-        let device = self.device;
-        let core = device.core;
-        let n = core.in_hand();
+        let n = self.device.core.in_hand();
         let hand = self.phase_at(n);
         let next = self.phase_at(n + 1);
         let function = next.function;
-        let heard = device.hear_line(hand, function, Pump::PHASES);
-        let after = heard.device;
+        let heard = self.device.hear_line(hand, function, Pump::PHASES);
         let edit = heard.edit;
         let told = heard.told;
+        self = self.with_device(heard.device);
+        self = self.edited(n, edit);
         Listened {
-            pump: self.with_device(after).edited(n, edit),
+            pump: self,
             told: told,
         }
     }
@@ -114,21 +104,8 @@ impl Pump {
     fn answered(self, told: Told, out: &mut [u8]) -> Report
         ensures { λ r. ⌜ (r ≡ answered self told (now (out .entry))) × (now (out .exit) ≡ answeredBuffer self told (now (out .entry))) ⌝ }
     {
-        let device = self.device;
-        let current = self.phase_at(device.core.run.place.current);
+        let current = self.phase_at(self.device.core.run.place.current);
         let direction = current.direction;
-        let length = answer::write(0, device.said(told, direction), out);
-        self.reported(length)
+        self.reported(answer::write(0, self.device.said(told, direction), out))
     }
-}
-
-// A tick of a sound pump; of any other, one that leaves all as it is.
-fn ticked(core: Core, here: Phase, sound: bool) -> Moved
-    requires { ⌜ (sound ≡ true → Ready modelPhases core here) ⌝ }
-    ensures { λ r. ⌜ r ≡ (if sound then tickOf core here else silent core) ⌝ }
-{
-    if sound {
-        return core.tick(here, Pump::PHASES);
-    }
-    core.silent()
 }

@@ -25,8 +25,7 @@ impl Pump {
         ensures { λ r. ⌜ r ≡ checked self ⌝ }
     {
         let phases = self.phases;
-        let device = self.device;
-        let n = device.core.run.place.current;
+        let n = self.device.core.run.place.current;
         let mut here = Phase::power_up(0);
         if 1 <= n {
             if n <= Pump::PHASES {
@@ -48,7 +47,7 @@ impl Pump {
         }
         Checked {
             here: here,
-            sound: device.is_sound(here, Pump::PHASES),
+            sound: self.device.is_sound(here, Pump::PHASES),
         }
     }
 }

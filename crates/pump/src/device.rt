@@ -49,9 +49,7 @@ impl Device {
         requires { ⌜ phases ≤ 99 ⌝ }
         ensures { λ r. ⌜ r ≡ isSoundDevice phases self current ⌝ }
     {
-        let core = self.core;
-        let line = self.line;
-        core.is_sound(current, phases) & line.is_sound()
+        self.core.is_sound(current, phases) & self.line.is_sound()
     }
 
     // A level of pin 2, 4 or 6.
@@ -59,12 +57,12 @@ impl Device {
         requires { ⌜ self .core .run .place .current ≤ 100 ⌝ }
         ensures { λ r. ⌜ r ≡ edge self pin high ⌝ }
     {
-        let core = self.core;
-        match pin {
-            2 => self.with_core(core.pin_two(high)),
-            4 => self.with_core(core.pin_four(high)),
-            _ => self.with_core(core.pin_six(high)),
-        }
+        let core = match pin {
+            2 => self.core.pin_two(high),
+            4 => self.core.pin_four(high),
+            _ => self.core.pin_six(high),
+        };
+        self.with_core(core)
     }
 
     // The line is whole, and is emptied whatever it asks for. Another address is passed over. `hand` is the phase in hand, `next` the
@@ -73,10 +71,9 @@ impl Device {
         requires { ⌜ self .core .run .place .current ≤ 100 ⌝ }
         ensures { λ r. ⌜ r ≡ hearLine self hand next phases ⌝ }
     {
-        let line = self.line;
         let emptied = self.with_line(Line::empty());
-        if line.address() == 0 {
-            return emptied.ours(line, hand, next, phases);
+        if self.line.address() == 0 {
+            return emptied.ours(self.line, hand, next, phases);
         }
         Heard {
             device: emptied,
@@ -86,33 +83,33 @@ impl Device {
     }
 
     // A pending alarm is answered, then cleared, and the command is not run.
-    fn ours(self, line: Line, hand: Phase, next: Function, phases: u8) -> Heard
+    fn ours(mut self, line: Line, hand: Phase, next: Function, phases: u8) -> Heard
         requires { ⌜ self .core .run .place .current ≤ 100 ⌝ }
         ensures { λ r. ⌜ r ≡ ours self line hand next phases ⌝ }
     {
-        let core = self.core;
-        let run = core.run;
-        let alarm = run.pending();
-        match alarm {
-            Pending::Raised(a) => Heard {
-                device: self.with_core(core.with_run(run.clear_alarm())),
+        let pending = self.core.run.pending();
+        if let Pending::Raised(alarm) = pending {
+            self.core = self.core.with_run(self.core.run.clear_alarm());
+            return Heard {
+                device: self,
                 edit: Edit::Keep,
-                told: Told::Alarm(a),
-            },
-            Pending::NoAlarm => self.obeyed(line, hand, next, phases),
+                told: Told::Alarm(alarm),
+            };
         }
+        self.obeyed(line, hand, next, phases)
     }
 
-    fn obeyed(self, line: Line, hand: Phase, next: Function, phases: u8) -> Heard
+    // The command that the line asks for is run.
+    fn obeyed(mut self, line: Line, hand: Phase, next: Function, phases: u8) -> Heard
         requires { ⌜ self .core .run .place .current ≤ 100 ⌝ }
         ensures { λ r. ⌜ r ≡ obeyed self line hand next phases ⌝ }
     {
         let obeyed = command::obey(self.core, hand, next, phases, line.command());
-        let core = obeyed.core;
         let edit = obeyed.edit;
         let reply = obeyed.reply;
+        self = self.with_core(obeyed.core);
         Heard {
-            device: self.with_core(core),
+            device: self,
             edit: edit,
             told: Told::Reply(reply),
         }
@@ -122,12 +119,10 @@ impl Device {
     pub fn said(self, told: Told, direction: Direction) -> Said
         ensures { λ r. ⌜ r ≡ said self told direction ⌝ }
     {
-        let core = self.core;
-        let run = core.run;
         match told {
             Told::Nothing => Said::Nothing,
             Told::Alarm(a) => Said::Alarm(a),
-            Told::Reply(reply) => Said::Answer(run.status(direction), reply),
+            Told::Reply(reply) => Said::Answer(self.core.run.status(direction), reply),
         }
     }
 

@@ -37,8 +37,9 @@ impl Pump {
         ensures { λ r. ⌜ r ≡ phaseAt (self .phases) n ⌝ }
     {
         if (1 <= n) & (n <= Pump::PHASES) {
+            let phases = self.phases;
             let i = (n - 1) as usize;
-            return self.phases[i];
+            return phases[i];
         }
         Phase::power_up(0)
     }

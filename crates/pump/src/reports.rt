@@ -85,17 +85,14 @@ impl Pump {
     pub fn moved_by(self, moved: Moved, refusal: Refusal) -> Report
         ensures { λ r. ⌜ r ≡ movedBy self moved refusal ⌝ }
     {
-        let core = moved.core;
-        let output = core.output;
-        let device = self.device;
         Report {
-            pump: self.with_device(device.with_core(core)),
+            pump: self.with_device(self.device.with_core(moved.core)),
             length: 0,
             infused: moved.infused as u32,
             withdrawn: moved.withdrawn as u32,
             beeps: moved.beep as u32,
             refusal: refusal,
-            output: output,
+            output: moved.core.output,
         }
     }
 }

@@ -16,12 +16,21 @@ pub fn show(name: &[u8], pump: Pump) {
     put(name);
     put(b":");
     shown(pump.tick());
-    shown(pump.pin(2, 0));
-    shown(pump.byte(13, &mut room));
-    shown(pump.pin(9, 7));
-    shown(pump.pin(2, 7));
-    shown(pump.byte(13, &mut short));
+    edge(pump, 2, 0);
+    heard(pump, &mut room);
+    edge(pump, 9, 7);
+    edge(pump, 2, 7);
+    heard(pump, &mut short);
     put(b"\n");
+}
+
+fn edge(pump: Pump, pin: u8, level: u8) {
+    shown(pump.pin(pin, level));
+}
+
+// A return, with a buffer for its answer.
+fn heard(pump: Pump, out: &mut [u8]) {
+    shown(pump.byte(13, out));
 }
 
 fn shown(report: Report) {

@@ -11,7 +11,7 @@ use Rattle.base.proofs.Choices.{and-left, and-right, false-true}
 use Rattle.decimal.specs.Writable.{writable}
 use Rattle.words.specs.Phases.{isSoundPhase}
 use Rattle.words.specs.declared.phases.Phase.{Phase}
-use Rattle.words.specs.Functions.{number, datum, isOut, takesDatum, fits, pauseTicks}
+use Rattle.words.specs.Functions.{number, datum, isOut, takesPhase, takesCount, takesDatum, fits, pauseTicks}
 use Rattle.words.specs.declared.functions.Function.{Function}
 use Rattle.words.specs.declared.functions.Function.the-variants as f
 
@@ -53,25 +53,25 @@ looked-fits phases (f.Out n) e = false-true e
 pub quick-fits : (phases : ℕ) (g : Function) (n : ℕ) → n ≡ looked g → inAll phases n ≡ true → true ≡ fits phases g
 quick-fits phases g n a e = looked-fits phases g (rw (a) at e)
 
--- ---- the tests of a datum in the code's order, asked of the number and the datum found
-module _ (phases : ℕ) (g : Function) (n d : ℕ) (a : n ≡ number g) (b : d ≡ datum g) where
-  pub a-phase : (eqb n 4 || eqb n 10 || eqb n 11) ≡ true → (leb 1 d && leb d phases) ≡ fits phases g
-  a-phase e = rw (b) (simp (rw (a) at e))
+-- ---- the tests of a datum in the code's order, asked of the number, the kind and the datum found
+module _ (phases : ℕ) (g : Function) (n d : ℕ) (a : n ≡ number g) (b : d ≡ datum g) (t t′ : Bool) (p : t ≡ takesPhase g) where
+  pub a-phase : t ≡ true → (leb 1 d && leb d phases) ≡ fits phases g
+  a-phase e = rw (b) (simp (sym p ∙ e))
 
-  module _ (e : (eqb n 4 || eqb n 10 || eqb n 11) ≡ false) where
-    pub a-count : (eqb n 5 || eqb n 9) ≡ true → (leb 1 d && leb d 99) ≡ fits phases g
-    a-count t = rw (b) (simp (rw (a) at e, rw (a) at t))
+  module _ (e : t ≡ false) (q : t′ ≡ takesCount g) where
+    pub a-count : t′ ≡ true → (leb 1 d && leb d 99) ≡ fits phases g
+    a-count h = rw (b) (simp (sym p ∙ e, sym q ∙ h))
 
-    module _ (e′ : (eqb n 5 || eqb n 9) ≡ false) where
+    module _ (e′ : t′ ≡ false) where
       pub seconds : n ≡ 8 → leb d 99 ≡ fits phases g
-      seconds t = rw (b) (simp (rw (a) at e, rw (a) at e′, eq-eqb _ _ (rw (a) at t)))
+      seconds h = rw (b) (simp (sym p ∙ e, sym q ∙ e′, eq-eqb _ _ (rw (a) at h)))
 
       module _ (e″ : n ≡ 8 → ⊥) where
         pub a-level : n ≡ 14 → leb d 1 ≡ fits phases g
-        a-level t = rw (b) (simp (rw (a) at e, rw (a) at e′, ne-eqb _ _ (rw (a) at e″), eq-eqb _ _ (rw (a) at t)))
+        a-level h = rw (b) (simp (sym p ∙ e, sym q ∙ e′, ne-eqb _ _ (rw (a) at e″), eq-eqb _ _ (rw (a) at h)))
 
         pub no-datum : (n ≡ 14 → ⊥) → true ≡ fits phases g
-        no-datum t = simp (rw (a) at e, rw (a) at e′, ne-eqb _ _ (rw (a) at e″), ne-eqb _ _ (rw (a) at t))
+        no-datum h = simp (sym p ∙ e, sym q ∙ e′, ne-eqb _ _ (rw (a) at e″), ne-eqb _ _ (rw (a) at h))
 
 pub ruleset datum-tests = (a-phase, a-count, seconds, a-level, no-datum)
 

@@ -1,2 +1,3 @@
 -- Laws that crates above cite.
 pub mod Data
+pub mod Names

@@ -1,7 +1,10 @@
 // What a phase does. A case's datum may be any u8, also one that no pump can hold: `fits` says which it may.
 ghost use mathlib.Core.Path.{_≡_};
 ghost use Rattle.base.specs.If.{if_then_else_};
-ghost use Rattle.words.specs.Functions.{number, datum, isFlow, isRamp, isRatePhase, isWait, isBeep, isOut, takesDatum, fits, pauseTicks};
+ghost use lib.ListN.{length, take};
+ghost use Rattle.words.specs.Functions.{number, datum, isFlow, isRamp, isRatePhase, isWait, isBeep, isOut, takesPhase, takesCount};
+ghost use Rattle.words.specs.Functions.{takesDatum, fits, pauseTicks};
+ghost use Rattle.words.specs.Spelling.{functionName};
 
 pub enum Function {
     Rat,
@@ -118,6 +121,41 @@ impl Function {
         self.number() == 14
     }
 
+    // JMP, IF and EVN
+    pub fn takes_phase(self) -> bool
+        ensures { λ r. ⌜ r ≡ takesPhase self ⌝ }
+    {
+        let n = self.number();
+        (n == 4) | (n == 10) | (n == 11)
+    }
+
+    // LOP, and PAS in tenths
+    pub fn takes_count(self) -> bool
+        ensures { λ r. ⌜ r ≡ takesCount self ⌝ }
+    {
+        let n = self.number();
+        (n == 5) | (n == 9)
+    }
+
+    // The letters of its name, for whoever reads it or prints it; behind IF a blank. The names stand in the order of the numbers.
+    pub fn letters(self) -> [u8; 3]
+        ensures { λ r. ⌜ take (length (functionName self)) r ≡ functionName self ⌝ }
+    {
+        let names = *b"RATINCDECSTPJMPLOPLPSLPEPASPASIF EVNEVRBEPOUT";
+        let at = self.number() as usize * 3;
+        [names[at], names[at + 1], names[at + 2]]
+    }
+
+    // How many letters its name has: IF two, every other three.
+    pub fn name_length(self) -> usize
+        ensures { λ r. ⌜ r ≡ length (functionName self) ⌝ }
+    {
+        if self.number() == 10 {
+            return 2;
+        }
+        3
+    }
+
     // How many ticks a timed pause takes, after the one that enters it; 0 for whatever is none.
     pub fn pause_ticks(self) -> u32
         ensures { λ r. ⌜ r ≡ pauseTicks self ⌝ }
@@ -151,10 +189,10 @@ impl Function {
     {
         let n = self.number();
         let datum = self.datum();
-        if (n == 4) | (n == 10) | (n == 11) {
+        if self.takes_phase() {
             return (1 <= datum) & (datum <= phases);
         }
-        if (n == 5) | (n == 9) {
+        if self.takes_count() {
             return (1 <= datum) & (datum <= 99);
         }
         if n == 8 {

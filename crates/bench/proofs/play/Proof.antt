@@ -10,10 +10,10 @@ use Rattle.bench.proofs.play.Statement.{statement}
 use Rattle.bench.proofs.play.Tie as tie
 
 abbrev Inv-loop : tie.InvT-loop
-Inv-loop s now₀ from₀ out₀ now from out = Plays s now₀ now from out
+Inv-loop s fed₀ from₀ out₀ fed from out = Plays s (fed₀ .bench) (fed .bench) from out
 
 abbrev μ-loop : tie.MeasureT-loop
-μ-loop s now₀ from₀ out₀ now from out = length s - from
+μ-loop s fed₀ from₀ out₀ fed from out = length s - from
 
 loop-holds : tie.Need-loop-holds Inv-loop μ-loop
 loop-holds c = plays-none _ _ _ (omega arith) (omega arith)
@@ -31,24 +31,24 @@ slice-aggregate-write-all c =
 
 add-from : tie.Need-add-from Inv-loop μ-loop
 add-from c =
-    let fed = c .before .before .before .before .before in
+    let fed = c .before .before .before .before in
     let turn = fed .before .before .before .before in
     omega (arith, plays-fits (turn .loop .inv) (fed .feed .ensures))
 
 loop-less : tie.Need-loop-less Inv-loop μ-loop
 loop-less c =
-    let fed = c .before .before .before .before .before in
+    let fed = c .before .before .before .before in
     let turn = fed .before .before .before .before in
     plays-less (turn .loop .inv) (fed .feed .ensures) (fed .before .before .before .loop-test .taken)
 
 loop-again : tie.Need-loop-again Inv-loop μ-loop
 loop-again c =
-    let fed = c .before .before .before .before .before in
+    let fed = c .before .before .before .before in
     let turn = fed .before .before .before .before in
     plays-more (turn .loop .inv) (fed .feed .ensures)
 
 returns : tie.Need-returns Inv-loop μ-loop
-returns c = plays-all (c .before .loop .inv) (c .loop-test .left)
+returns c = plays-all (c .before .before .loop .inv) (c .before .loop-test .left)
 
 pub play-spec : {M : Type 1} → statement M
 play-spec =

@@ -3,7 +3,7 @@
 use native.Mathlib.Omega.{arith}
 use borrow.Author.Needs.{needs}
 use Rattle.base.proofs.Writing.{wrote-as, wrote-none}
-use Rattle.answer.proofs.Buffers.{untouched, answered}
+use Rattle.answer.proofs.Buffers.{untouched, answered, something}
 use Rattle.answer.proofs.frame.write.Statement.{statement}
 use Rattle.answer.proofs.frame.write.Tie as tie
 
@@ -15,13 +15,9 @@ returns-2 c = answered _ _ (omega arith) (wrote-as (wrote-none _ _ (omega arith)
 
 returns-3 : tie.Need-returns-3
 returns-3 c =
-    let told = c .before .before .before .before .enum-told2 in
-    answered _ _ (omega arith) (wrote-as (c .before .before .write-framed .ensures) (rw (told .given .1)))
-
-returns-4 : tie.Need-returns-4
-returns-4 c =
-    let told = c .before .before .before .before .enum-told3 in
-    answered _ _ (omega arith) (wrote-as (c .before .before .write-framed2 .ensures) (rw (told .given .1)))
+    let told = c .before .before .before .before in
+    let said = told .before .before .before .args .said in
+    answered _ _ (omega arith) (wrote-as (c .before .before .write-framed .ensures) (something _ said (told .match .keys2)))
 
 pub write-spec : {M : Type 1} → statement M
 write-spec =
@@ -29,12 +25,7 @@ write-spec =
     (tie.spec
     returns
     (λ c. search needs)
-    (λ c. search needs)
-    (λ c κs. search needs)
-    (λ c. search needs)
     (λ c κs. search needs)
     returns-2
     (λ c. search needs)
-    returns-3
-    (λ c. search needs)
-    returns-4)
+    returns-3)

@@ -1,4 +1,4 @@
--- `answer::writing::body` meets its contract: a letter and what stands behind it are two runs.
+-- `answer::writing::body` meets its contract: a letter and what stands behind it are two runs; an alarm is one.
 -- Assumes nothing.
 use native.Mathlib.Omega.{arith}
 use borrow.Author.Needs.{needs}
@@ -11,13 +11,9 @@ returns c = wrote-as (wrote-none _ _ (omega arith)) (rw (c .enum-told .given .1)
 
 returns-2 : tie.Need-returns-2
 returns-2 c =
-    let letter = c .before .before in
-    let mark = letter .before .before .before .before .before in
-    wrote-two
-    _
-    (mark .copy .ensures)
-    (letter .put .ensures)
-    (rw (mark .before .before .before .before .said .given .1, letter .before .alarm-letter .ensures))
+    wrote-as
+    (c .before .before .three-bytes .ensures)
+    (rw (c .before .before .before .before .before .before .said .given .1, c .before .before .before .before .alarm-letter .ensures))
 
 returns-3 : tie.Need-returns-3
 returns-3 c =
@@ -25,7 +21,7 @@ returns-3 c =
     let letter = after .before .before .before .before in
     wrote-two
     _
-    (letter .put2 .ensures)
+    (letter .put .ensures)
     (after .«data» .ensures)
     (rw (letter .before .before .before .before .said2 .given .1, letter .before .status-letter .ensures))
 
@@ -35,8 +31,6 @@ body-spec =
     (tie.spec
     (λ c. search needs)
     (λ c. search needs)
-    (λ c. search needs)
-    (λ c κs. search needs)
     (λ c κs. tt)
     (λ c κs. search needs)
     (λ c. search needs)

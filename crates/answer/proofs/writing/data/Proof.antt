@@ -1,51 +1,37 @@
--- `answer::writing::data` meets its contract: each arm writes the text of the reply that it matched; a printed number has 5 bytes.
+-- `answer::writing::data` meets its contract: each arm writes the text of the reply that it matched.
 -- Assumes nothing.
 use native.Mathlib.Omega.{arith}
 use borrow.Author.Needs.{needs}
-use Rattle.base.proofs.Writing.{wrote-as, wrote-none, wrote-two}
-use Rattle.decimal.proofs.Theorems.{printed-length}
+use Rattle.base.proofs.Writing.{wrote-as, wrote-none}
 use Rattle.answer.proofs.writing.data.Statement.{statement}
 use Rattle.answer.proofs.writing.data.Tie as tie
-
-rate-unit-requires : tie.Need-rate-unit-requires
-rate-unit-requires c κs = omega (arith, simp printed-length at (c .before .before .before .number2 .ensures .ends))
-
-volume-unit-requires : tie.Need-volume-unit-requires
-volume-unit-requires c κs = omega (arith, simp printed-length at (c .before .before .before .number3 .ensures .ends))
 
 returns : tie.Need-returns
 returns c = wrote-as (wrote-none _ _ (omega arith)) (rw (c .enum-told .given .1))
 
 returns-2 : tie.Need-returns-2
-returns-2 c = wrote-as (c .before .before .copy .ensures) (rw (c .before .before .before .before .before .enum-told2 .given .1))
+returns-2 c = wrote-as (c .before .before .put .ensures) (rw (c .before .before .before .before .enum-told2 .given .1))
 
 returns-3 : tie.Need-returns-3
-returns-3 c = wrote-as (c .before .before .copy2 .ensures) (rw (c .before .before .before .before .before .enum-told3 .given .1))
+returns-3 c = wrote-as (c .before .before .three-bytes .ensures) (rw (c .before .before .before .before .enum-told3 .given .1))
 
 returns-4 : tie.Need-returns-4
-returns-4 c = wrote-as (c .before .before .copy3 .ensures) (rw (c .before .before .before .before .before .enum-told4 .given .1))
+returns-4 c = wrote-as (c .before .before .four-bytes .ensures) (rw (c .before .before .before .before .enum-told4 .given .1))
 
 returns-5 : tie.Need-returns-5
 returns-5 c = wrote-as (c .before .before .number .ensures) (rw (c .before .before .before .before .before .reply .given .1))
 
 returns-6 : tie.Need-returns-6
-returns-6 c =
-    let unit = c .before .before in
-    let amount = unit .before .before .before .before in
-    wrote-two _ (amount .number2 .ensures) (unit .rate-unit .ensures) (rw (amount .before .before .before .reply2 .given .1))
+returns-6 c = wrote-as (c .before .before .quantity .ensures) (rw (c .before .before .before .before .before .before .reply2 .given .1, c .before .before .before .before .rate-letters .ensures))
 
 returns-7 : tie.Need-returns-7
-returns-7 c =
-    let unit = c .before .before in
-    let amount = unit .before .before .before .before in
-    wrote-two _ (amount .number3 .ensures) (unit .volume-unit .ensures) (rw (amount .before .before .before .reply3 .given .1))
+returns-7 c = wrote-as (c .before .before .quantity2 .ensures) (rw (c .before .before .before .before .before .before .reply3 .given .1, c .before .before .before .before .volume-letters .ensures))
 
 returns-8 : tie.Need-returns-8
-returns-8 c = wrote-as (c .before .before .direction .ensures) (rw (c .before .before .before .before .before .reply4 .given .1))
+returns-8 c = wrote-as (c .before .before .three-bytes2 .ensures) (rw (c .before .before .before .before .before .before .reply4 .given .1, c .before .before .before .before .direction-letters .ensures))
 
 returns-9 : tie.Need-returns-9
-returns-9 c =
-    wrote-as (c .before .before .two-digits .ensures) (rw (c .before .before .before .before .before .reply5 .given .1))
+returns-9 c = wrote-as (c .before .before .two-digits .ensures) (rw (c .before .before .before .before .before .reply5 .given .1))
 
 returns-10 : tie.Need-returns-10
 returns-10 c = wrote-as (c .before .before .function .ensures) (rw (c .before .before .before .before .before .reply6 .given .1))
@@ -59,23 +45,21 @@ data-spec =
     (tie.spec
     (λ c. search needs)
     (λ c. search needs)
-    (λ c. search needs)
     (λ c κs. search needs)
-    (λ c. search needs)
-    (λ c. search needs)
-    (λ c κs. search needs)
-    (λ c. search needs)
     (λ c. search needs)
     (λ c κs. search needs)
     (λ c. search needs)
     (λ c κs. search needs)
     (λ c. search needs)
     (λ c κs. search needs)
-    rate-unit-requires
     (λ c. search needs)
+    (λ c κs. tt)
     (λ c κs. search needs)
-    volume-unit-requires
     (λ c. search needs)
+    (λ c κs. tt)
+    (λ c κs. search needs)
+    (λ c. search needs)
+    (λ c κs. tt)
     (λ c κs. search needs)
     (λ c. search needs)
     (λ c κs. search needs)

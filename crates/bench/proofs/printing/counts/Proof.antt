@@ -1,4 +1,4 @@
--- `counts` meets its contract: three counts with their labels, and a newline.
+-- `counts` meets its contract: three counts with their letters.
 -- Assumes nothing.
 use Rattle.bench.proofs.Prints.{printing}
 use borrow.Author.Needs.{needs}
@@ -9,15 +9,4 @@ returns : tie.Need-returns
 returns c = search (printing, needs)
 
 pub counts-spec : {M : Type 1} → statement M
-counts-spec =
-    tie.close
-    (tie.spec
-    (λ c. search needs)
-    (λ c κs. search needs)
-    (λ c. search needs)
-    (λ c κs. search needs)
-    (λ c. search needs)
-    (λ c κs. search needs)
-    (λ c κs. search needs)
-    (λ c. search needs)
-    returns)
+counts-spec = tie.close (tie.spec (λ c κs. search needs) (λ c κs. search needs) (λ c κs. search needs) (λ c. search needs) returns)

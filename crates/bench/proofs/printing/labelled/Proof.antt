@@ -1,4 +1,4 @@
--- `labelled` meets its contract: the label, and the count behind it.
+-- `labelled` meets its contract: the letter and a blank, the count, and the byte behind it.
 -- Assumes nothing.
 use Rattle.bench.proofs.Prints.{printing}
 use borrow.Author.Needs.{needs}
@@ -9,4 +9,12 @@ returns : tie.Need-returns
 returns c = search (printing, needs)
 
 pub labelled-spec : {M : Type 1} → statement M
-labelled-spec = tie.close (tie.spec (λ c κs. search needs) (λ c κs. search needs) (λ c. search needs) returns)
+labelled-spec =
+    tie.close
+    (tie.spec
+    (λ c κs. search needs)
+    (λ c κs. search needs)
+    (λ c κs. search needs)
+    (λ c κs. search needs)
+    (λ c. search needs)
+    returns)

@@ -9,12 +9,17 @@ unfolding clearTotal
 returns c =
     rw (
       c .decide .ensures,
-      c .before .judge-idle .ensures,
-      c .before .before .is-operating .ensures,
-      c .before .before .before .clear .ensures,
+      c .before .clear .ensures,
+      c .before .before .judge-idle .ensures,
+      c .before .before .before .is-operating .ensures,
     )
 
 pub clear-total-spec : {M : Type 1} → statement M
 clear-total-spec =
     tie.close
-    (tie.spec (λ c κs. tt) (λ c κs. tt) (λ c κs. tt) (λ c κs. tt) returns)
+    (tie.spec
+    (λ c κs. tt)
+    (λ c κs. tt)
+    (λ c κs. tt)
+    (λ c κs. tt)
+    returns)

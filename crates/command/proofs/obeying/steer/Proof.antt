@@ -8,4 +8,9 @@ returns : tie.Need-returns
 returns c = search obeying
 
 pub steer-spec : {M : Type 1} → statement M
-steer-spec = tie.close (tie.spec (λ c κs. tt) (λ c κs. tt) returns)
+steer-spec =
+    tie.close
+    (tie.spec
+    (λ c κs. tt)
+    (λ c κs. tt)
+    returns)

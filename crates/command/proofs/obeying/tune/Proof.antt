@@ -12,4 +12,11 @@ returns-2 : tie.Need-returns-2
 returns-2 c = search obeying
 
 pub tune-spec : {M : Type 1} → statement M
-tune-spec = tie.close (tie.spec (λ c. search needs) (λ c. search needs) (λ c κs. tt) returns returns-2)
+tune-spec =
+    tie.close
+    (tie.spec
+    (λ c. search needs)
+    (λ c κs. tt)
+    returns
+    (λ c. search needs)
+    returns-2)

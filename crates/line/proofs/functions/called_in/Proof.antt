@@ -1,120 +1,31 @@
--- `called_in` meets its contract: the letters that are looked at leave one function to be tried, or none.
+-- `called_in` meets its contract: the only function that can be called is called, if its name is there.
 -- Assumes nothing.
-use lib.Dec.{lit<}
-use Rattle.base.specs.Text.{text, letter}
-use Rattle.words.specs.declared.functions.Function.the-variants as f
-use Rattle.line.specs.Functions.{calledOf, calledBy}
-use Rattle.line.proofs.Letters.{by-first, by-second, by-third}
-use Rattle.line.proofs.Calling.{only-rat, only-inc, only-dec, only-stp, only-jmp, only-lop, only-lps, only-lpe, only-pas, only-if}
-use Rattle.line.proofs.Calling.{only-evn, only-evr, only-bep, only-out, no-first, no-second, no-loop, no-event}
+use Rattle.line.proofs.Calling.{called, not-called, name-within, name-there}
 use borrow.Author.Needs.{needs}
 use Rattle.line.proofs.functions.called_in.Statement.{statement}
 use Rattle.line.proofs.functions.called_in.Tie as tie
 
+array-share-prefix-name : tie.Need-array-share-prefix-name
+array-share-prefix-name c = search name-within
+
+slice-aggregate-leads : tie.Need-slice-aggregate-leads
+slice-aggregate-leads c = search name-there
+
 returns : tie.Need-returns
-returns c = search (by-first calledOf (calledBy f.Rat (text "RAT")) (letter "R") (lit< tt) only-rat)
+returns c = search called
 
 returns-2 : tie.Need-returns-2
-returns-2 c = search (by-second calledOf (calledBy f.Inc (text "INC")) (letter "I") (letter "N") (lit< tt) only-inc)
-
-returns-3 : tie.Need-returns-3
-returns-3 c = search (by-second calledOf (calledBy (f.If 0) (text "IF")) (letter "I") (letter "F") (lit< tt) only-if)
-
-returns-4 : tie.Need-returns-4
-returns-4 c = search no-second
-
-returns-5 : tie.Need-returns-5
-returns-5 c = search (by-first calledOf (calledBy f.Dec (text "DEC")) (letter "D") (lit< tt) only-dec)
-
-returns-6 : tie.Need-returns-6
-returns-6 c = search (by-first calledOf (calledBy f.Stp (text "STP")) (letter "S") (lit< tt) only-stp)
-
-returns-7 : tie.Need-returns-7
-returns-7 c = search (by-first calledOf (calledBy (f.Jmp 0) (text "JMP")) (letter "J") (lit< tt) only-jmp)
-
-returns-8 : tie.Need-returns-8
-returns-8 c = search (by-third calledOf (calledBy (f.Lop 0) (text "LOP")) (letter "L") (letter "P") (lit< tt) only-lop)
-
-returns-9 : tie.Need-returns-9
-returns-9 c = search (by-third calledOf (calledBy f.Lps (text "LPS")) (letter "L") (letter "S") (lit< tt) only-lps)
-
-returns-10 : tie.Need-returns-10
-returns-10 c = search (by-third calledOf (calledBy f.Lpe (text "LPE")) (letter "L") (letter "E") (lit< tt) only-lpe)
-
-returns-11 : tie.Need-returns-11
-returns-11 c = search no-loop
-
-returns-12 : tie.Need-returns-12
-returns-12 c = search (by-first calledOf (calledBy (f.Pas 0) (text "PAS")) (letter "P") (lit< tt) only-pas)
-
-returns-13 : tie.Need-returns-13
-returns-13 c = search (by-third calledOf (calledBy (f.Evn 0) (text "EVN")) (letter "E") (letter "N") (lit< tt) only-evn)
-
-returns-14 : tie.Need-returns-14
-returns-14 c = search (by-third calledOf (calledBy f.Evr (text "EVR")) (letter "E") (letter "R") (lit< tt) only-evr)
-
-returns-15 : tie.Need-returns-15
-returns-15 c = search no-event
-
-returns-16 : tie.Need-returns-16
-returns-16 c = search (by-first calledOf (calledBy f.Bep (text "BEP")) (letter "B") (lit< tt) only-bep)
-
-returns-17 : tie.Need-returns-17
-returns-17 c = search (by-first calledOf (calledBy (f.Out 0) (text "OUT")) (letter "O") (lit< tt) only-out)
-
-returns-18 : tie.Need-returns-18
-returns-18 c = search no-first
+returns-2 c = search not-called
 
 pub called-in-spec : {M : Type 1} → statement M
 called-in-spec =
     tie.close
     (tie.spec
     (λ c κs. tt)
-    (λ c κs. tt)
-    (λ c κs. tt)
-    (λ c. search needs)
-    (λ c κs. tt)
-    (λ c. search needs)
-    (λ c κs. tt)
-    (λ c. search needs)
-    (λ c κs. tt)
-    (λ c. search needs)
-    (λ c κs. tt)
-    (λ c. search needs)
-    (λ c κs. tt)
-    (λ c. search needs)
-    (λ c κs. tt)
-    (λ c. search needs)
-    (λ c κs. tt)
-    (λ c. search needs)
-    (λ c κs. tt)
-    (λ c. search needs)
-    (λ c κs. tt)
-    (λ c. search needs)
-    (λ c κs. tt)
-    (λ c. search needs)
-    (λ c κs. tt)
-    (λ c. search needs)
-    (λ c κs. tt)
-    (λ c. search needs)
-    (λ c κs. tt)
-    (λ c. search needs)
+    (λ c κs. search needs)
+    (λ c κs. search needs)
+    array-share-prefix-name
+    slice-aggregate-leads
     (λ c κs. tt)
     returns
-    returns-2
-    returns-3
-    returns-4
-    returns-5
-    returns-6
-    returns-7
-    returns-8
-    returns-9
-    returns-10
-    returns-11
-    returns-12
-    returns-13
-    returns-14
-    returns-15
-    returns-16
-    returns-17
-    returns-18)
+    returns-2)

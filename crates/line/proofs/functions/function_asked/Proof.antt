@@ -10,10 +10,10 @@ returns : tie.Need-returns
 returns c = search asks-function
 
 sub-with-datum : tie.Need-sub-with-datum
-sub-with-datum c = rw (c .width .ensures) (search called-within)
+sub-with-datum c = rw (c .name-length .ensures) (search called-within)
 
 part-with-datum-start : tie.Need-part-with-datum-start
-part-with-datum-start c = rw (c .width .ensures) (search called-within)
+part-with-datum-start c = rw (c .name-length .ensures) (search called-within)
 
 returns-2 : tie.Need-returns-2
 returns-2 c = search some-function
@@ -28,7 +28,7 @@ function-asked-spec =
     returns
     (λ c κs. tt)
     (λ c. search needs)
-    (λ c κs. tt)
+    (λ c κs. search needs)
     sub-with-datum
     part-with-datum-start
     (λ c. search needs)

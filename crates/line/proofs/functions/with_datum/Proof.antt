@@ -1,4 +1,4 @@
--- `with_datum` meets its contract: the kind of datum that it takes, by its number.
+-- `with_datum` meets its contract: the kind of datum that it takes, by its number and its kind.
 -- Assumes nothing.
 use Rattle.line.proofs.Behind.{data-taken}
 use borrow.Author.Needs.{needs}
@@ -24,9 +24,11 @@ with-datum-spec =
     (λ c κs. search needs)
     (λ c κs. tt)
     (λ c κs. tt)
+    (λ c κs. tt)
     returns
     (λ c κs. tt)
     returns-2
+    (λ c κs. tt)
     (λ c κs. tt)
     (λ c κs. tt)
     returns-3

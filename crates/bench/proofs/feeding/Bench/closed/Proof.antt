@@ -9,7 +9,7 @@ returns : tie.Need-returns
 returns c =
     let act-at = c .before .before in
     let input-end-at = act-at .before .before in
-    let start = input-end-at .before .before .before in
+    let start = input-end-at .before .before in
     closing-wrote (start .args .self) _ (input-end-at .input-end .ensures) (act-at .act .ensures .1)
 
 pub closed-spec : {M : Type 1} → statement M

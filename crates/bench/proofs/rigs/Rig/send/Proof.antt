@@ -8,7 +8,7 @@ use Rattle.bench.proofs.rigs.Rig.send.Tie as tie
 returns : tie.Need-returns
 returns c =
     let sent2-at = c .before .before in
-    let sent-at = sent2-at .before .before .before .before .before in
+    let sent-at = sent2-at .before .before .before .before in
     let if1-at = sent-at .before .before in
     let start = if1-at .before .before in
     let g = start .args .self in

@@ -6,7 +6,7 @@ use Rattle.engine.proofs.state.Core.pin_four.Tie as tie
 
 returns : tie.Need-returns
 unfolding pinFour
-returns c = rw (c .with-run .ensures, c .before .spring .ensures) (simp (c .before .before .before .if1 .taken))
+returns c = rw (c .with-run .ensures, c .before .spring .ensures) (simp (c .before .before .if1 .taken))
 
 returns-2 : tie.Need-returns-2
 unfolding pinFour

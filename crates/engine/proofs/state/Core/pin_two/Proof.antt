@@ -7,7 +7,7 @@ use Rattle.engine.proofs.state.Core.pin_two.Tie as tie
 
 returns : tie.Need-returns
 unfolding pinTwo
-returns c = rw (c .with-run .ensures, c .before .foot-switch .ensures) (simp (c .before .before .before .if1 .taken))
+returns c = rw (c .with-run .ensures, c .before .foot-switch .ensures) (simp (c .before .before .if1 .taken))
 
 returns-2 : tie.Need-returns-2
 unfolding pinTwo

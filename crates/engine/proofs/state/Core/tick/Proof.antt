@@ -1,13 +1,21 @@
 -- `Core::tick` meets its contract.
 -- Assumes nothing.
-use mathlib.Core.Path.{ap, _∙_}
-use Rattle.engine.specs.Cores.{withRun}
-use Rattle.engine.specs.Ticks.{silent, worked}
+use mathlib.Core.Path.{_≡_}
+use mathlib.Core.Bool.{true}
+use Rattle.engine.specs.Runs.{isOperating}
+use Rattle.engine.proofs.Choosing.{told-not, told-so}
 use Rattle.engine.proofs.Readiness.{ready-current, ready-entering, ready-visit}
-use Rattle.engine.proofs.Ticking.{ticks-on, ticking}
+use Rattle.engine.proofs.Ticking.{ticks-off, ticks-on, ticks-visit, ticks-pause}
 use borrow.Author.Needs.{needs}
 use Rattle.engine.proofs.state.Core.tick.Statement.{statement}
 use Rattle.engine.proofs.state.Core.tick.Tie as tie
+
+returns : tie.Need-returns
+returns c =
+    let k = c .before .before in
+    let a = k .before .args in
+    ticks-off (a .self) (a .here) _ (told-not (isOperating (a .self .run)) _ (k .is-operating .ensures) (c .before .if1 .taken))
+    (c .silent .ensures)
 
 entered-requires : tie.Need-entered-requires
 entered-requires c κs = search ready-entering
@@ -18,41 +26,44 @@ work-visit-requires c κs = search ready-visit
 work-pause-requires : tie.Need-work-pause-requires
 work-pause-requires c κs = search ready-current
 
-returns : tie.Need-returns
-returns c = search ticking
+-- past the test the program runs
+runs : (k : tie.Else1) → isOperating (k .before .before .args .self .run) ≡ true
+runs k = told-so (isOperating (k .before .before .args .self .run)) _ (k .before .is-operating .ensures) (k .if1 .left)
 
 returns-2 : tie.Need-returns-2
-returns-2 c = search ticking
+returns-2 c =
+    let k = c .before .before .before .before in
+    let a = k .before .before .args in
+    ticks-on (a .self) (a .here) _ _ (runs k) (c .before .enum-told .given .1) (c .entered .ensures)
 
 returns-3 : tie.Need-returns-3
-returns-3 c = search ticking
+returns-3 c =
+    let w = c .before .before .before in
+    let k = w .before .before .before in
+    let a = k .before .before .args in
+    ticks-visit (a .self) (a .here) _ _ _ (runs k) (w .work .given .1) (c .before .work-visit .ensures) (c .worked .ensures)
 
 returns-4 : tie.Need-returns-4
 returns-4 c =
-    let k = c .before .before .before in
-    let a = k .before .before .before .before .before .before .before .args in
-    ticks-on _ _ _ _ (k .before .before .enum-told3 .given .1) (k .work .given .1)
-    (c .worked .ensures ∙ ap (worked (a .self) (a .here .direction)) (c .before .work-visit .ensures))
+    let w = c .before .before .before .before in
+    let k = w .before .before .before in
+    let a = k .before .before .args in
+    ticks-pause (a .self) (a .here) _ _ _ _ (runs k) (w .work2 .given .1)
+    (c .before .before .work-pause .ensures) (c .before .with-run .ensures) (c .silent2 .ensures)
 
 returns-5 : tie.Need-returns-5
 returns-5 c =
     let k = c .before .before .before .before in
-    let a = k .before .before .before .before .before .before .before .args in
-    ticks-on _ _ _ _ (k .before .before .enum-told3 .given .1) (k .work2 .given .1)
-    (c .silent3 .ensures ∙ ap silent (c .before .with-run .ensures ∙ ap (withRun (a .self)) (c .before .before .work-pause .ensures)))
-
-returns-6 : tie.Need-returns-6
-returns-6 c = search ticking
+    let a = k .before .before .args in
+    ticks-on (a .self) (a .here) _ _ (runs k) (c .before .enum-told2 .given .1) (c .silent3 .ensures)
 
 pub tick-spec : {M : Type 1} → statement M
 tick-spec =
     tie.close
     (tie.spec
-    (λ c. search needs)
     (λ c κs. tt)
-    (λ c. search needs)
     (λ c κs. tt)
-    (λ c. search needs)
+    returns
     (λ c. search needs)
     entered-requires
     (λ c. search needs)
@@ -64,9 +75,7 @@ tick-spec =
     (λ c κs. tt)
     (λ c. search needs)
     (λ c κs. tt)
-    returns
     returns-2
     returns-3
     returns-4
-    returns-5
-    returns-6)
+    returns-5)

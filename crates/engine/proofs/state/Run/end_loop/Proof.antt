@@ -7,7 +7,7 @@ use Rattle.engine.proofs.state.Run.end_loop.Tie as tie
 
 returns : tie.Need-returns
 unfolding endLoop
-returns c = rw (c .go-to .ensures, c .before .with-loops .ensures, c .before .before .before .lpe .ensures)
+returns c = rw (c .go-to .ensures, c .before .with-loops .ensures, c .before .before .lpe .ensures)
 
 pub end-loop-spec : {M : Type 1} → statement M
 end-loop-spec = tie.close (tie.spec (λ c κs. search needs) (λ c κs. tt) (λ c κs. tt) returns)

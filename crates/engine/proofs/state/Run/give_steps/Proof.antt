@@ -1,69 +1,69 @@
 -- `Run::give_steps` meets its contract.
 -- Assumes nothing.
+use Prim.Native.Nat.{_*_, _≤_}
 use native.Mathlib.Omega.{arith}
-use borrow.Author.Tests.{le-leb, lt-leb}
-use Rattle.dispense.proofs.Visiting.{steps-le}
-use Rattle.engine.specs.Working.{doseOf, giveSteps}
-use Rattle.engine.proofs.Visiting.{dose-le}
+use Rattle.engine.proofs.Visiting.{steps-small, dose-small, gives, gives-none}
 use borrow.Author.Needs.{needs}
 use Rattle.engine.proofs.state.Run.give_steps.Statement.{statement}
 use Rattle.engine.proofs.state.Run.give_steps.Tie as tie
 
+-- the steps, and their volume
+steps-le : (w : tie.After-work) → w .work .result .steps ≤ 4
+steps-le w =
+    let s = w .before .before in
+    steps-small (s .args .self) (s .args .ledger) (s .args .d) (s .args .direction) (s .args .visit) (s .args .hourly) _ _ 0 0
+    (w .before .step-threshold .ensures) (w .work .ensures) (s .pre .works)
+
+dose-le : (v : tie.After-step-volume) → v .before .work .result .steps * v .step-volume .result ≤ 1_963_500_000
+dose-le v =
+    let w = v .before in
+    let s = w .before .before in
+    dose-small (s .args .self) (s .args .ledger) (s .args .d) (s .args .direction) (s .args .visit) (s .args .hourly) _ _ _ 0
+    (w .before .step-threshold .ensures) (w .work .ensures) (v .step-volume .ensures) (s .pre .high) (s .pre .works)
+
 mul-dose : tie.Need-mul-dose
-mul-dose c =
-    let w = c .before in
-    let a = w .before .before .before .args in
-    let p = w .before .before .before .pre in
-    rw (w .work .ensures, w .before .step-threshold .ensures, w .before .before .step-volume .ensures)
-    (omega (arith, dose-le (a .d) (a .visit) (a .hourly) (p .high) (p .works)))
+mul-dose c = omega (arith, dose-le (c .before))
 
 add-if1 : tie.Need-add-if1
 add-if1 c =
-    let w = c .before .before in
-    let a = w .before .before .before .args in
-    let p = w .before .before .before .pre in
-    rw (c .total-of .ensures, w .work .ensures, w .before .step-threshold .ensures, w .before .before .step-volume .ensures)
-    (omega (arith, p .total, dose-le (a .d) (a .visit) (a .hourly) (p .high) (p .works)))
+    let v = c .before .before in
+    rw (c .total-of .ensures) (omega (arith, v .before .before .before .pre .total, dose-le v))
 
-cast-t17 : tie.Need-cast-t17
-cast-t17 c =
-    let w = c .before .before .before .before .before in
-    let a = w .before .before .before .args in
-    rw (w .work .ensures, w .before .step-threshold .ensures)
-    (omega (arith, steps-le (a .visit) (a .hourly) _ (w .before .before .before .pre .works)))
+cast-t14 : tie.Need-cast-t14
+cast-t14 c = omega (arith, steps-le (c .before .before .before .before .before .before .before))
 
 returns : tie.Need-returns
-unfolding giveSteps doseOf
 returns c =
-    let k = c .before .before in
-    let w = k .before .before .before in
-    let t = w .before .step-threshold .ensures in
-    let v = w .before .before .step-volume .ensures in
-    rw (c .book .ensures, c .before .after-visit .ensures, w .work .ensures, t, v)
-    (simp (le-leb _ _ (rw (k .before .total-of .ensures, w .work .ensures, t, v) at (k .if1 .taken))))
+    let k = c .before .before .before in
+    let v = k .before .before .before in
+    let w = v .before in
+    let a = w .before .before .args in
+    gives (a .self) (a .ledger) (a .d) (a .direction) (a .visit) (a .hourly) _ _ _ _ (w .before .step-threshold .ensures)
+    (w .work .ensures) (v .step-volume .ensures) (k .before .total-of .ensures) _ _ (k .if1 .taken)
+    (c .before .before .after-visit .ensures) (c .before .book .ensures)
 
 returns-2 : tie.Need-returns-2
-unfolding giveSteps doseOf
 returns-2 c =
     let k = c .before in
-    let w = k .before .before .before in
-    let t = w .before .step-threshold .ensures in
-    let v = w .before .before .step-volume .ensures in
-    rw (c .raise .ensures) (simp (lt-leb _ _ (rw (k .before .total-of .ensures, w .work .ensures, t, v) at (k .if1 .left))))
+    let v = k .before .before .before in
+    let w = v .before in
+    let a = w .before .before .args in
+    gives-none (a .self) (a .ledger) (a .d) (a .direction) (a .visit) (a .hourly) _ _ _ _ (w .before .step-threshold .ensures)
+    (w .work .ensures) (v .step-volume .ensures) (k .before .total-of .ensures) _ (k .if1 .left) (c .raise .ensures)
 
 pub give-steps-spec : {M : Type 1} → statement M
 give-steps-spec =
     tie.close
     (tie.spec
     (λ c κs. tt)
-    (λ c κs. tt)
     (λ c κs. search needs)
+    (λ c κs. tt)
     mul-dose
     (λ c κs. tt)
     add-if1
     (λ c κs. search needs)
     (λ c κs. search needs)
-    cast-t17
+    cast-t14
     returns
     (λ c κs. tt)
     returns-2)

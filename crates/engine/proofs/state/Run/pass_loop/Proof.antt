@@ -7,7 +7,7 @@ use Rattle.engine.proofs.state.Run.pass_loop.Tie as tie
 
 returns : tie.Need-returns
 unfolding passLoop
-returns c = rw (c .go-to .ensures, c .before .with-loops .ensures, c .before .before .before .lop .ensures)
+returns c = rw (c .go-to .ensures, c .before .with-loops .ensures, c .before .before .lop .ensures)
 
 pub pass-loop-spec : {M : Type 1} → statement M
 pass-loop-spec = tie.close (tie.spec (λ c κs. search needs) (λ c κs. tt) (λ c κs. tt) returns)

@@ -9,13 +9,13 @@ unfolding startLoop
 returns c = rw (c .raise .ensures) (simp (rw (c .before .before .lps .ensures) at (c .before .if1 .taken)))
 
 go-on-requires : tie.Need-go-on-requires
-go-on-requires c κs = rw (c .with-loops .ensures) (c .before .before .before .before .before .pre)
+go-on-requires c κs = rw (c .with-loops .ensures) (c .before .before .before .pre)
 
 returns-2 : tie.Need-returns-2
 unfolding startLoop
 returns-2 c =
-    rw (c .go-on .ensures, c .before .with-loops .ensures, c .before .before .before .before .lps .ensures)
-    (simp (rw (c .before .before .before .before .lps .ensures) at (c .before .before .before .if1 .left)))
+    rw (c .go-on .ensures, c .before .with-loops .ensures, c .before .before .before .lps .ensures)
+    (simp (rw (c .before .before .before .lps .ensures) at (c .before .before .if1 .left)))
 
 pub start-loop-spec : {M : Type 1} → statement M
 start-loop-spec =

@@ -5,7 +5,7 @@ use Rattle.pump.proofs.device.Device.hear_line.Statement.{statement}
 use Rattle.pump.proofs.device.Device.hear_line.Tie as tie
 
 ours-requires : tie.Need-ours-requires
-ours-requires c κs = rw (c .before .before .with-line .ensures) (c .before .before .before .before .before .pre)
+ours-requires c κs = rw (c .before .before .with-line .ensures) (c .before .before .before .before .pre)
 
 returns : tie.Need-returns
 returns c = search hearing

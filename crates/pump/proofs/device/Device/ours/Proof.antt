@@ -19,8 +19,7 @@ ours-spec =
     (λ c. search needs)
     (λ c κs. tt)
     (λ c κs. tt)
-    (λ c κs. tt)
+    returns
     (λ c. search needs)
     (λ c κs. search needs)
-    returns
     returns-2)

@@ -13,10 +13,10 @@ use Rattle.pump.proofs.holder.Pump.checked.Statement.{statement}
 use Rattle.pump.proofs.holder.Pump.checked.Tie as tie
 
 abbrev Inv-loop : tie.InvT-loop
-Inv-loop phases device n here i₀ i = (here ≡ phaseAt phases n) × Tested modelPhases phases i
+Inv-loop self phases n here i₀ i = (here ≡ phaseAt phases n) × Tested modelPhases phases i
 
 abbrev μ-loop : tie.MeasureT-loop
-μ-loop phases device n here i₀ i = 41 - i
+μ-loop self phases n here i₀ i = 41 - i
 
 cast-at : tie.Need-cast-at Inv-loop μ-loop
 cast-at c = omega arith
@@ -29,7 +29,7 @@ array-copy-out-here c = omega arith
 
 loop-holds : tie.Need-loop-holds Inv-loop μ-loop
 loop-holds c =
-    let k = c .before .before .before .before in
+    let k = c .before .before .before in
     let ps = k .args .self .phases in
     let n = k .args .self .device .core .run .place .current in
     let full = simp length-map at (k .good .0 .1 .1 .0 .1 .0 .1) in
@@ -59,7 +59,7 @@ loop-less c = omega arith
 loop-again : tie.Need-loop-again Inv-loop μ-loop
 loop-again c =
     let turn = c .before .before .before .before in
-    let k = c .before .before .before .before .before .before .before .before .before in
+    let k = c .before .before .before .before .before .before .before .before in
     let full = simp length-map at (k .good .0 .1 .1 .0 .1 .0 .1) in (
       turn .loop .inv .0,
       tested-more (k .args .self .phases) (turn .loop .i) full (turn .loop .inv .1) (omega arith) _ (c .before .is-sound .ensures)
@@ -69,7 +69,7 @@ loop-again c =
 returns : tie.Need-returns Inv-loop μ-loop
 returns c =
     let turn = c .before .before .before .before in
-    let k = c .before .before .before .before .before .before .before .before .before in
+    let k = c .before .before .before .before .before .before .before .before in
     let full = simp length-map at (k .good .0 .1 .1 .0 .1 .0 .1) in
     let one =
     one-unsound (k .args .self .phases) (turn .loop .i) full (turn .loop .inv .1) (omega arith) _ (c .before .is-sound .ensures)
@@ -82,7 +82,7 @@ is-sound-requires-2 c κs = omega arith
 returns-2 : tie.Need-returns-2 Inv-loop μ-loop
 returns-2 c =
     let turn = c .before .before in
-    let k = c .before .before .before .before .before .before .before in
+    let k = c .before .before .before .before .before .before in
     let full = simp length-map at (k .good .0 .1 .1 .0 .1 .0 .1) in
     let all = tested-all (k .args .self .phases) (turn .loop .i) full (turn .loop .inv .1) (omega arith) in
     checked-as (k .args .self) _ (turn .loop .inv .0)

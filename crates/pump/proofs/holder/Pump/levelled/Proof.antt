@@ -19,5 +19,4 @@ levelled-spec =
     returns
     (λ c κs. search needs)
     (λ c κs. tt)
-    (λ c κs. tt)
     returns-2)

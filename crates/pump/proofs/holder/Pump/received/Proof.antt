@@ -20,7 +20,6 @@ received-spec =
     (tie.spec
     (λ c κs. tt)
     (λ c κs. tt)
-    (λ c κs. tt)
     after-line-requires
     (λ c κs. tt)
     (λ c. search needs)

@@ -26,7 +26,9 @@ fits-its-rule-spec =
     (tie.spec
     (λ c κs. search needs)
     (λ c κs. tt)
+    (λ c κs. tt)
     returns
+    (λ c κs. tt)
     returns-2
     returns-3
     returns-4

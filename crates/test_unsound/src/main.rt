@@ -4,7 +4,8 @@
 // so that only a program like this shows one.
 //
 // A line has the refusals of six calls: a tick; pin 2 at level 0; byte 13; pin 9 at level 7; pin 2 at level 7; byte 13 with a buffer of 23
-// bytes. A sound state is refused for what the last three hand in, `0 0 0 2 3 1`; any other for itself, `4 4 4 4 4 4`.
+// bytes; then whether a thousand ticks at once were taken. A sound state is refused for what the last three hand in, `0 0 0 2 3 1 +`;
+// any other for itself, `4 4 4 4 4 4 -`.
 //
 //   states   the sound states that the cases start from, and one part of a state replaced
 //   show     a case's line

@@ -9,13 +9,13 @@ use Rattle.base.specs.Text.{text}
 use Rattle.decimal.specs.Print.{digit, printed, twoDigits, tenthsPrinted}
 use Rattle.drive.specs.declared.rates.RateUnit.the-variants.{Mh}
 use Rattle.drive.specs.declared.syringe.VolumeUnit.the-variants.{Microlitre}
+use Rattle.drive.specs.declared.directions.Direction.the-variants.{Infuse}
 use Rattle.words.specs.declared.answers.Alarm.the-variants.{PowerUp, Program}
 use Rattle.words.specs.declared.answers.Reply.the-variants as r
 use Rattle.words.specs.declared.answers.Said.{Said}
 use Rattle.words.specs.declared.answers.Said.the-variants as said
 use Rattle.words.specs.declared.answers.Status.the-variants.{Stopped, Paused, TimedPause, TriggerWait, Infusing, Withdrawing}
 use Rattle.words.specs.declared.functions.Function.the-variants as f
-use Rattle.words.specs.declared.phases.Direction.the-variants.{Infuse}
 use Rattle.answer.specs.Answers.{framed, answerOf}
 
 -- an address and what is said, and the bytes of the answer

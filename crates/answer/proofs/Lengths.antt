@@ -14,6 +14,8 @@ use Rattle.drive.specs.declared.rates.RateUnit.{RateUnit}
 use Rattle.drive.specs.declared.rates.RateUnit.the-variants.{Um, Mm, Uh, Mh}
 use Rattle.drive.specs.declared.syringe.VolumeUnit.{VolumeUnit}
 use Rattle.drive.specs.declared.syringe.VolumeUnit.the-variants.{Microlitre, Millilitre}
+use Rattle.drive.specs.declared.directions.Direction.{Direction}
+use Rattle.drive.specs.declared.directions.Direction.the-variants.{Infuse, Withdraw}
 use Rattle.words.specs.Functions.{number, datum, takesPhase, takesCount, isOut}
 use Rattle.words.specs.Spelling.{datumText, rateUnitName, volumeUnitName, directionName}
 use Rattle.words.specs.declared.answers.Reply.{Reply}
@@ -22,8 +24,6 @@ use Rattle.words.specs.declared.answers.Said.{Said}
 use Rattle.words.specs.declared.answers.Said.the-variants as said
 use Rattle.words.specs.declared.answers.Status.{Status}
 use Rattle.words.specs.declared.functions.Function.{Function}
-use Rattle.words.specs.declared.phases.Direction.{Direction}
-use Rattle.words.specs.declared.phases.Direction.the-variants.{Infuse, Withdraw}
 use Rattle.answer.specs.Answers.{bodyOf, framed, answerOf}
 use Rattle.answer.specs.Replies.{totalsText, dataOf}
 use Rattle.answer.proofs.Functions.{name-length}

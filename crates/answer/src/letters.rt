@@ -2,10 +2,10 @@
 ghost use mathlib.Core.Path.{_≡_};
 ghost use Rattle.words.specs.Spelling.{rateUnitName, volumeUnitName, directionName};
 ghost use Rattle.answer.specs.Letters.{statusLetter, alarmLetter};
+use drive::Direction;
 use drive::RateUnit;
 use drive::VolumeUnit;
 use words::Alarm;
-use words::Direction;
 use words::Status;
 
 pub fn status_letter(status: Status) -> u8

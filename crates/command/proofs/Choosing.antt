@@ -3,7 +3,7 @@
 use mathlib.Core.Path.{_≡_, sym}
 use mathlib.Core.Bool.{Bool, _&&_, not}
 use borrow.Author.Tests.{le-leb, lt-leb}
-use Rattle.engine.proofs.Choosing.{told, chosen, passed}
+use Rattle.program.proofs.Choosing.{told, chosen, passed}
 
 module _ (t u b v w : Bool) (p : u ≡ t) (q : v ≡ w) where
   pub told-both : (u && v) ≡ b → (t && w) ≡ b

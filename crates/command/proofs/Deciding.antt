@@ -16,13 +16,13 @@ use Rattle.words.specs.declared.commands.Command.{Command}
 use Rattle.words.specs.declared.functions.Function.{Function}
 use Rattle.words.specs.declared.phases.Phase.{Phase}
 use Rattle.dispense.specs.declared.rates.Rate.{Rate}
-use Rattle.engine.specs.Cores.{withRun, withSyringe}
-use Rattle.engine.specs.Runs.{isOperating}
-use Rattle.engine.specs.declared.state.Core.{Core}
-use Rattle.engine.specs.declared.state.Mode.{Mode}
-use Rattle.engine.specs.declared.state.Mode.the-variants.{Stopped, Paused, Running}
-use Rattle.engine.specs.declared.state.Run.{Run}
-use Rattle.engine.proofs.state.Mode.{the-type}
+use Rattle.program.specs.Cores.{withRun, withSyringe}
+use Rattle.program.specs.Runs.{isOperating}
+use Rattle.program.specs.declared.state.Core.{Core}
+use Rattle.program.specs.declared.state.Mode.{Mode}
+use Rattle.program.specs.declared.state.Mode.the-variants.{Stopped, Paused, Running}
+use Rattle.program.specs.declared.state.Run.{Run}
+use Rattle.program.proofs.state.Mode.{the-type}
 use Rattle.command.specs.Judging.{judgeDiameter}
 use Rattle.command.specs.Obeying as o
 use Rattle.command.specs.declared.judging.Verdict.{Verdict}

@@ -14,8 +14,8 @@ use Rattle.words.specs.declared.functions.Function.{Function}
 use Rattle.words.specs.declared.phases.Phase.{Phase}
 use Rattle.dispense.specs.declared.rates.Rate.{Rate}
 use Rattle.dispense.specs.declared.rates.Rate.the-variants.{NoRate, Current}
-use Rattle.engine.specs.Runs.{isVisiting}
-use Rattle.engine.specs.declared.state.Run.{Run}
+use Rattle.program.specs.Runs.{isVisiting}
+use Rattle.program.specs.declared.state.Run.{Run}
 use Rattle.command.specs.declared.judging.Verdict.{Verdict}
 use Rattle.command.specs.declared.judging.Verdict.the-variants.{Accepted, NotApplicable, OutOfRange}
 

@@ -2,26 +2,26 @@
 -- to be done to the table of phases, and the reply.   (01, Commands)
 use Prim.Native.Nat.{ℕ}
 use Rattle.base.specs.If.{if_then_else_}
-use Rattle.words.specs.Phases.{reverse}
+use Rattle.drive.specs.Directions.{reverse}
+use Rattle.drive.specs.declared.directions.Direction.{Direction}
 use Rattle.words.specs.declared.answers.Reply.{Reply}
 use Rattle.words.specs.declared.answers.Reply.the-variants as reply
 use Rattle.words.specs.declared.commands.Command.{Command}
 use Rattle.words.specs.declared.commands.Command.the-variants as c
 use Rattle.words.specs.declared.commands.Units.{Units}
 use Rattle.words.specs.declared.functions.Function.{Function}
-use Rattle.words.specs.declared.phases.Direction.{Direction}
 use Rattle.words.specs.declared.phases.Phase.{Phase}
 use Rattle.dispense.specs.Ledgers as ledgers
 use Rattle.dispense.specs.declared.rates.Rate.{Rate}
 use Rattle.dispense.specs.declared.rates.Rate.the-variants.{NoRate, Current}
-use Rattle.engine.specs.Control.{runOn, runFrom, stopNow}
-use Rattle.engine.specs.Cores.{withRun, withLedger, withSyringe, withChosen, resetCore}
-use Rattle.engine.specs.Runs.{withRate, stop, isOperating}
-use Rattle.engine.specs.declared.control.Steered.{Steered}
-use Rattle.engine.specs.declared.state.Core.{Core}
-use Rattle.engine.specs.declared.state.Mode.{Mode}
-use Rattle.engine.specs.declared.state.Mode.the-variants.{Stopped, Paused, Running}
-use Rattle.engine.specs.declared.state.Run.{Run}
+use Rattle.program.specs.Control.{runOn, runFrom, stopNow}
+use Rattle.program.specs.Cores.{withRun, withLedger, withSyringe, withChosen, resetCore}
+use Rattle.program.specs.Runs.{withRate, stop, isOperating}
+use Rattle.program.specs.declared.control.Steered.{Steered}
+use Rattle.program.specs.declared.state.Core.{Core}
+use Rattle.program.specs.declared.state.Mode.{Mode}
+use Rattle.program.specs.declared.state.Mode.the-variants.{Stopped, Paused, Running}
+use Rattle.program.specs.declared.state.Run.{Run}
 use Rattle.command.specs.Judging as judging
 use Rattle.command.specs.Phases.{withStored, withVolume, withDirection, withFunction}
 use Rattle.command.specs.Queries.{askRate, askVolume, askPhase, askTotals}

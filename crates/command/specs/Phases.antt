@@ -1,8 +1,8 @@
 -- The phase in hand with one thing set.   (01, Commands)
 use Prim.Native.Nat.{ℕ}
 use Rattle.drive.specs.declared.rates.RateUnit.{RateUnit}
+use Rattle.drive.specs.declared.directions.Direction.{Direction}
 use Rattle.words.specs.declared.functions.Function.{Function}
-use Rattle.words.specs.declared.phases.Direction.{Direction}
 use Rattle.words.specs.declared.phases.Phase.{Phase}
 
 abbrev pub withStored : Phase → ℕ → RateUnit → Phase

@@ -12,8 +12,8 @@ use Rattle.words.specs.declared.phases.Phase.{Phase}
 use Rattle.dispense.specs.declared.ledgers.Ledger.{Ledger}
 use Rattle.dispense.specs.declared.rates.Rate.{Rate}
 use Rattle.dispense.specs.declared.rates.Rate.the-variants.{NoRate, Current}
-use Rattle.engine.specs.Runs.{isOperating}
-use Rattle.engine.specs.declared.state.Run.{Run}
+use Rattle.program.specs.Runs.{isOperating}
+use Rattle.program.specs.declared.state.Run.{Run}
 
 -- ---- RAT: while operating, in any phase, the current rate and its units; else the stored rate of a rate phase, with units if RAT
 abbrev pub currentRate : Rate → Reply

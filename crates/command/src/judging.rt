@@ -4,7 +4,7 @@ ghost use Rattle.command.specs.Judging.{judgeIdle, judgeDiameter, judgeS
 ghost use Rattle.command.specs.Judging.{judgeDirection, judgePhase, judgeFunction, isOwn, unitOr, ifInRange};
 use dispense::Rate;
 use drive::RateUnit;
-use engine::Run;
+use program::Run;
 use words::Function;
 use words::Phase;
 use words::Units;

@@ -1,8 +1,8 @@
 // The phase in hand with one thing set.
 ghost use mathlib.Core.Path.{_≡_};
 ghost use Rattle.command.specs.Phases.{withStored, withVolume, withDirection, withFunction};
+use drive::Direction;
 use drive::RateUnit;
-use words::Direction;
 use words::Function;
 use words::Phase;
 

@@ -4,7 +4,7 @@ ghost use Rattle.command.specs.Queries.{askRate, storedRate, currentRate
 use dispense::Ledger;
 use dispense::Rate;
 use drive::Syringe;
-use engine::Run;
+use program::Run;
 use words::Phase;
 use words::Reply;
 

@@ -14,26 +14,26 @@ use borrow.Author.Tests.{eq-eqb, ne-eqb, eqb-true}
 use Rattle.base.specs.If.{if_then_else_}
 use Rattle.base.proofs.Choices.{false-true}
 use Rattle.drive.specs.Syringe.{stepVolume}
+use Rattle.drive.specs.declared.directions.Direction.{Direction}
 use Rattle.words.specs.Functions.{isPhase}
 use Rattle.words.specs.declared.answers.Said.the-variants as said
 use Rattle.words.specs.declared.commands.Command.{Command}
-use Rattle.words.specs.declared.phases.Direction.{Direction}
 use Rattle.words.specs.declared.phases.Phase.{Phase}
-use Rattle.answer.specs.Answers.{bodyOf, answerOf}
-use Rattle.answer.specs.Replies.{dataOf}
-use Rattle.answer.proofs.Lengths.{framed-length, answer-around}
-use Rattle.line.specs.Lines.{addressIn, commandIn}
 use Rattle.dispense.specs.Ledgers.{totalOf}
 use Rattle.dispense.specs.declared.ledgers.Ledger.{Ledger}
-use Rattle.engine.specs.Edges.{pinTwo, pinFour, pinSix, falls}
-use Rattle.engine.specs.Runs.{isVisiting}
-use Rattle.engine.specs.Statuses.{inHand, statusOf}
-use Rattle.engine.specs.declared.state.Core.{Core}
-use Rattle.engine.specs.declared.state.Place.{Place}
+use Rattle.program.specs.Edges.{pinTwo, pinFour, pinSix, falls}
+use Rattle.program.specs.Runs.{isVisiting}
+use Rattle.program.specs.Statuses.{inHand, statusOf}
+use Rattle.program.specs.declared.state.Core.{Core}
+use Rattle.program.specs.declared.state.Place.{Place}
 use Rattle.command.specs.declared.obeying.Edit.{Edit}
 use Rattle.command.specs.declared.obeying.Edit.the-variants.{Keep, Write, Renew}
 use Rattle.command.specs.declared.obeying.Obeyed.{Obeyed}
 use Rattle.soundness.proofs.Runs.{by-test, phase-bounds}
+use Rattle.line.specs.Lines.{addressIn, commandIn}
+use Rattle.answer.specs.Answers.{bodyOf, answerOf}
+use Rattle.answer.specs.Replies.{dataOf}
+use Rattle.answer.proofs.Lengths.{framed-length, answer-around}
 use Rattle.pump.specs.Calls.{saidBy}
 use Rattle.pump.specs.Holder.{phaseCount, phaseAt, hereOf, withPhase, edited}
 use Rattle.pump.specs.declared.calls.Listened.{Listened}

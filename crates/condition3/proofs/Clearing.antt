@@ -7,8 +7,8 @@ use lib.Dec.{eqb}
 use Rattle.base.specs.If.{if_then_else_}
 use Rattle.base.proofs.Choices.{and-false}
 use Rattle.drive.specs.Syringe.{stepVolume}
+use Rattle.drive.specs.declared.directions.Direction.{Direction}
 use Rattle.words.specs.Commands.{asksToClear}
-use Rattle.words.specs.declared.phases.Direction.{Direction}
 use Rattle.dispense.specs.Ledgers.{totalOf}
 use Rattle.line.specs.Lines.{addressIn, commandIn}
 use Rattle.pump.specs.declared.holder.Pump.{Pump}

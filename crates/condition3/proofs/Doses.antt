@@ -10,15 +10,15 @@ use mathlib.Core.Bool.{true, false}
 use mathlib.Core.List.{List, [], _∷_}
 use native.Mathlib.Nat.{add-zero, add-assoc}
 use native.Mathlib.Omega.{arith}
-use Rattle.engine.specs.Runs.{isVisiting}
+use Rattle.program.specs.Runs.{isVisiting}
 use Rattle.pump.specs.Holder.{freshPump}
 use Rattle.pump.specs.declared.holder.Pump.{Pump}
 use Rattle.pump.specs.declared.reports.Report.{Report}
+use Rattle.pump.proofs.Kept.{sound-tick}
 use Rattle.statement.specs.Facts.{runOf, underWay}
 use Rattle.statement.specs.Histories.{Call, byteIn, pinAt, tickIn, reportAfter, after, Model, Whole}
 use Rattle.statement.proofs.Always.{call-whole}
 use Rattle.statement.proofs.Soundness.{sound-facts}
-use Rattle.pump.proofs.Kept.{sound-tick}
 use Rattle.statement.proofs.Wholes.{fresh-whole}
 use Rattle.condition3.specs.Observations.{Event, eventOf, trace, Every, noted, isTick, begins, ends, stepsOf, Dose, seen, doses}
 use Rattle.condition3.specs.Observations.{stepsIn, stepsGiven}

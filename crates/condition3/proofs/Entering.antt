@@ -21,18 +21,18 @@ use Rattle.dispense.specs.Rates.{increase, decrease, isUsableRate}
 use Rattle.dispense.specs.declared.rates.Rate.{Rate}
 use Rattle.dispense.specs.declared.rates.Rate.the-variants.{Current}
 use Rattle.dispense.specs.declared.visits.Visit.{Visit}
-use Rattle.engine.specs.Cores.{withRun, withOutput}
-use Rattle.engine.specs.Entering.{beginVisit, enterRate, enterPause, startLoop, passLoop, endLoop, jumpIf, fire, armTrap, clearTrap}
-use Rattle.engine.specs.Entering.{enterBy, enter}
-use Rattle.engine.specs.Runs.{withRate, doing, goOn, isRunning, isEntering, isVisiting}
-use Rattle.engine.specs.Ticks.{entered}
-use Rattle.engine.specs.declared.state.Mode.{Mode}
-use Rattle.engine.specs.declared.state.Mode.the-variants.{Running}
-use Rattle.engine.specs.declared.state.Pins.{Pins}
-use Rattle.engine.specs.declared.state.Run.{Run}
-use Rattle.engine.specs.declared.state.Work.{Work}
-use Rattle.engine.specs.declared.state.Work.the-variants.{Entering, Visiting}
-use Rattle.engine.specs.declared.ticks.Moved.{Moved}
+use Rattle.program.specs.Cores.{withRun, withOutput}
+use Rattle.program.specs.Runs.{withRate, doing, goOn, fire, isRunning, isEntering, isVisiting}
+use Rattle.program.specs.declared.state.Mode.{Mode}
+use Rattle.program.specs.declared.state.Mode.the-variants.{Running}
+use Rattle.program.specs.declared.state.Pins.{Pins}
+use Rattle.program.specs.declared.state.Run.{Run}
+use Rattle.program.specs.declared.state.Work.{Work}
+use Rattle.program.specs.declared.state.Work.the-variants.{Entering, Visiting}
+use Rattle.tick.specs.Entering.{beginVisit, enterRate, enterPause, startLoop, passLoop, endLoop, jumpIf, armTrap, clearTrap}
+use Rattle.tick.specs.Entering.{enterBy, enter}
+use Rattle.tick.specs.Ticks.{entered}
+use Rattle.tick.specs.declared.Moved.{Moved}
 use Rattle.soundness.proofs.Runs.{by-test}
 use Rattle.pump.specs.Holder.{hereOf}
 use Rattle.pump.specs.Reports.{movedBy}

@@ -5,7 +5,7 @@ use mathlib.Core.Path.{_≡_, refl}
 use mathlib.Core.Bool.{true, false}
 use mathlib.Core.List.{List, [], _∷_, _++_}
 use Rattle.base.specs.Rows.{Gives}
-use Rattle.words.specs.declared.phases.Direction.the-variants.{Infuse}
+use Rattle.drive.specs.declared.directions.Direction.the-variants.{Infuse}
 use Rattle.pump.specs.Holder.{modelPhases, freshPump}
 use Rattle.statement.specs.Histories.{Call}
 use Rattle.condition3.specs.Observations.{trace, clears, volume, sinceCleared, begins, ends, stepsOf, seen, doses}

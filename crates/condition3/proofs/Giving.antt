@@ -12,8 +12,8 @@ use Rattle.base.specs.If.{if_then_else_}
 use Rattle.drive.specs.Rates.{hourly}
 use Rattle.drive.specs.Syringe.{stepVolume, threshold}
 use Rattle.drive.proofs.Theorems.{usable-iff, due-four}
-use Rattle.words.specs.declared.phases.Direction.{Direction}
-use Rattle.words.specs.declared.phases.Direction.the-variants.{Infuse, Withdraw}
+use Rattle.drive.specs.declared.directions.Direction.{Direction}
+use Rattle.drive.specs.declared.directions.Direction.the-variants.{Infuse, Withdraw}
 use Rattle.words.specs.declared.phases.Phase.{Phase}
 use Rattle.dispense.specs.Ledgers.{mostTotal, totalOf, book}
 use Rattle.dispense.specs.Visits.{dueOf, stepsOf}
@@ -21,17 +21,17 @@ use Rattle.dispense.specs.declared.ledgers.Ledger.{Ledger}
 use Rattle.dispense.specs.declared.rates.Rate.{Rate}
 use Rattle.dispense.specs.declared.rates.Rate.the-variants.{NoRate, Current}
 use Rattle.dispense.specs.declared.visits.Visit.{Visit}
-use Rattle.engine.specs.Cores.{withRun}
-use Rattle.engine.specs.Ticks.{silent, entered, worked, workBy, tickBy, tickOf}
-use Rattle.engine.specs.Working.{doseOf, giveSteps, workAt, workVisit}
-use Rattle.engine.specs.declared.state.Core.{Core}
-use Rattle.engine.specs.declared.state.Mode.{Mode}
-use Rattle.engine.specs.declared.state.Mode.the-variants.{Stopped, Paused, Running}
-use Rattle.engine.specs.declared.state.Run.{Run}
-use Rattle.engine.specs.declared.state.Work.{Work}
-use Rattle.engine.specs.declared.state.Work.the-variants.{Entering, Visiting, Pausing, Waiting}
-use Rattle.engine.specs.declared.ticks.Moved.{Moved}
-use Rattle.engine.specs.declared.working.Given.{Given}
+use Rattle.program.specs.Cores.{withRun}
+use Rattle.program.specs.declared.state.Core.{Core}
+use Rattle.program.specs.declared.state.Mode.{Mode}
+use Rattle.program.specs.declared.state.Mode.the-variants.{Stopped, Paused, Running}
+use Rattle.program.specs.declared.state.Run.{Run}
+use Rattle.program.specs.declared.state.Work.{Work}
+use Rattle.program.specs.declared.state.Work.the-variants.{Entering, Visiting, Pausing, Waiting}
+use Rattle.tick.specs.Ticks.{silent, entered, worked, workBy, tickBy, tickOf}
+use Rattle.tick.specs.Working.{doseOf, giveSteps, workAt, workVisit}
+use Rattle.tick.specs.declared.Moved.{Moved}
+use Rattle.tick.specs.declared.working.Given.{Given}
 use Rattle.soundness.proofs.Runs.{by-test}
 use Rattle.pump.specs.Holder.{hereOf}
 use Rattle.pump.specs.declared.holder.Pump.{Pump}

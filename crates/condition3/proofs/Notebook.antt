@@ -12,9 +12,9 @@ use Rattle.base.proofs.Choices.{false-true}
 use Rattle.drive.specs.Syringe.{stepVolume, inFemtolitres}
 use Rattle.drive.proofs.Theorems.{target-fits}
 use Rattle.dispense.specs.declared.visits.Visit.{Visit}
-use Rattle.engine.specs.Runs.{isVisiting}
-use Rattle.engine.specs.declared.state.Work.{Work}
-use Rattle.engine.specs.declared.state.Work.the-variants.{Entering, Visiting, Pausing, Waiting}
+use Rattle.program.specs.Runs.{isVisiting}
+use Rattle.program.specs.declared.state.Work.{Work}
+use Rattle.program.specs.declared.state.Work.the-variants.{Entering, Visiting, Pausing, Waiting}
 use Rattle.pump.specs.Holder.{hereOf}
 use Rattle.pump.specs.declared.holder.Pump.{Pump}
 use Rattle.statement.specs.Facts.{coreOf, underWay}

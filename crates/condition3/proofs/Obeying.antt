@@ -9,25 +9,25 @@ use lib.Dec.{eqb}
 use borrow.Author.Tests.{ne-eqb}
 use Rattle.base.specs.If.{if_then_else_}
 use Rattle.drive.specs.Syringe.{diameter}
+use Rattle.drive.specs.Directions.{reverse}
+use Rattle.drive.specs.declared.directions.Direction.{Direction}
+use Rattle.drive.specs.declared.directions.Direction.the-variants.{Infuse, Withdraw}
 use Rattle.words.specs.Commands.{clearNumber, commandNumber, asksToClear}
 use Rattle.words.specs.Functions.{isRatePhase}
-use Rattle.words.specs.Phases.{reverse}
 use Rattle.words.specs.declared.answers.Reply.{Reply}
 use Rattle.words.specs.declared.answers.Reply.the-variants as reply
 use Rattle.words.specs.declared.commands.Command.{Command}
 use Rattle.words.specs.declared.commands.Command.the-variants as c
 use Rattle.words.specs.declared.commands.Units.{Units}
 use Rattle.words.specs.declared.functions.Function.{Function}
-use Rattle.words.specs.declared.phases.Direction.{Direction}
-use Rattle.words.specs.declared.phases.Direction.the-variants.{Infuse, Withdraw}
 use Rattle.words.specs.declared.phases.Phase.{Phase}
 use Rattle.dispense.specs.Ledgers.{totalOf, clear}
 use Rattle.dispense.specs.declared.ledgers.Ledger.{Ledger}
-use Rattle.engine.specs.Control.{runOn, runFrom, stopNow}
-use Rattle.engine.specs.Cores.{withRun, withLedger, withSyringe, withChosen}
-use Rattle.engine.specs.Runs.{isOperating, isVisiting}
-use Rattle.engine.specs.declared.control.Steered.{Steered}
-use Rattle.engine.specs.declared.state.Core.{Core}
+use Rattle.program.specs.Control.{runOn, runFrom, stopNow}
+use Rattle.program.specs.Cores.{withRun, withLedger, withSyringe, withChosen}
+use Rattle.program.specs.Runs.{isOperating, isVisiting}
+use Rattle.program.specs.declared.control.Steered.{Steered}
+use Rattle.program.specs.declared.state.Core.{Core}
 use Rattle.command.specs.Judging.{ifInRange, judgeIdle, judgeDiameter, judgeVolume, judgeTuning, judgeStored, unitOr}
 use Rattle.command.specs.Judging.{judgeDirection, judgePhase, judgeFunction}
 use Rattle.command.specs.Obeying.{answer, steer, decide, settle, setDiameter, tune, setRate, setPhaseTo, choose, clearTotal, reset, obey}

@@ -11,6 +11,16 @@ use Rattle.words.specs.Phases as phases
 use Rattle.loops.specs.Loops as loops
 use Rattle.dispense.specs.Ledgers as ledgers
 use Rattle.dispense.specs.Visits as visits
+use Rattle.program.specs.Control as control
+use Rattle.program.specs.Runs as runs
+use Rattle.program.specs.Statuses as statuses
+use Rattle.program.specs.Sound as sound
+use Rattle.tick.specs.Entering as entering
+use Rattle.tick.specs.Working as working
+use Rattle.tick.specs.Ticks as ticks
+use Rattle.command.specs.Queries as queries
+use Rattle.command.specs.Judging as judging
+use Rattle.command.specs.Obeying as obeying
 use Rattle.line.specs.Characters as characters
 use Rattle.line.specs.Spelling as spelling
 use Rattle.line.specs.Names as names
@@ -20,15 +30,6 @@ use Rattle.line.specs.Commands as commands
 use Rattle.line.specs.Functions as functions
 use Rattle.line.specs.Lines as lines
 use Rattle.answer.specs.Answers as answers
-use Rattle.engine.specs.Control as control
-use Rattle.engine.specs.Entering as entering
-use Rattle.engine.specs.Working as working
-use Rattle.engine.specs.Ticks as ticks
-use Rattle.engine.specs.Statuses as statuses
-use Rattle.engine.specs.Sound as sound
-use Rattle.command.specs.Queries as queries
-use Rattle.command.specs.Judging as judging
-use Rattle.command.specs.Obeying as obeying
 use Rattle.pump.specs.Device as device
 use Rattle.pump.specs.Holder as holder
 use Rattle.pump.specs.Calls as calls
@@ -42,7 +43,7 @@ unfolding read.isDigit read.isPoint read.plain read.digits read.points read.afte
     rates.hourly rates.usable syringe.diameter syringe.stepVolume syringe.threshold syringe.volumeUnit syringe.inFemtolitres syringe.target
     phases.powerUp phases.isSoundPhase loops.before loops.lps loops.newest loops.older loops.lop loops.lpe loops.allSound
     loops.noneBegunBy loops.allDiffer loops.isSoundLoops ledgers.isSoundLedger
-    visits.dueOf visits.storeOf visits.stepsOf visits.givenOf visits.workedOf visits.isDone visits.isSoundVisit
+    visits.dueOf visits.storeOf visits.stepsOf visits.givenOf visits.workedOf visits.isDone
     characters.isReturn characters.isDropped characters.isLower characters.raised characters.arrivalOf characters.standing spelling.leads
     spelling.isText names.nameOf names.argumentOf addresses.addressWidth addresses.addressOf addresses.behindAddress
     arguments.diameterAsked arguments.volumeAsked arguments.unitsOf arguments.unitsAtEnd arguments.amountOf arguments.rateAsked
@@ -50,9 +51,9 @@ unfolding read.isDigit read.isPoint read.plain read.digits read.points read.afte
     functions.calledOf functions.pauseAsked functions.functionAsked commands.commandOf lines.withCharacter lines.afterByte
     lines.allStanding lines.isSoundLine lines.addressIn lines.commandIn answers.framed answers.lengthIn answers.bufferAfter
     entering.beginVisit entering.enterRate entering.enterPause entering.startLoop entering.passLoop entering.endLoop entering.jumpIf
-    entering.fire entering.armTrap entering.clearTrap entering.enter working.doseOf working.afterVisit working.giveSteps
-    working.workVisit working.workPause ticks.entered ticks.tickOf statuses.statusOf control.runOn control.runFrom control.stopNow
-    sound.isSoundRun sound.isSoundCore queries.storedRate queries.askRate queries.askVolume queries.askPhase queries.askTotals
+    entering.armTrap entering.clearTrap entering.enter working.doseOf working.afterVisit working.giveSteps
+    working.workVisit working.workPause ticks.entered ticks.tickOf runs.fire statuses.statusOf control.runOn control.runFrom control.stopNow
+    sound.isSoundVisit sound.isSoundRun sound.isSoundCore queries.storedRate queries.askRate queries.askVolume queries.askPhase queries.askTotals
     judging.judgeIdle judging.judgeDiameter judging.judgeStored judging.judgeTuning judging.judgeVolume judging.judgeDirection
     judging.judgePhase judging.judgeFunction obeying.settle obeying.setDiameter obeying.tune obeying.setRate obeying.choose
     obeying.clearTotal

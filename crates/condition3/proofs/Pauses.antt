@@ -7,24 +7,24 @@ use Prim.Native.Nat.{ℕ, zero, suc, _-_, _≤_, _<_}
 use mathlib.Core.Path.{_≡_, refl, sym, ap, _∙_, subst}
 use native.Mathlib.Omega.{arith}
 use borrow.Author.Tests.{le-leb, lt-leb}
-use Rattle.engine.specs.Cores.{withRun}
-use Rattle.engine.specs.Runs.{doing, goOn}
-use Rattle.engine.specs.Ticks.{workBy, tickBy, tickOf}
-use Rattle.engine.specs.Working.{workPause}
-use Rattle.engine.specs.declared.state.Mode.the-variants.{Running}
-use Rattle.engine.specs.declared.ticks.Moved.{Moved}
-use Rattle.engine.specs.declared.state.Work.{Work}
-use Rattle.engine.specs.declared.state.Work.the-variants.{Pausing}
+use Rattle.program.specs.Cores.{withRun}
+use Rattle.program.specs.Runs.{doing, goOn}
+use Rattle.program.specs.declared.state.Mode.the-variants.{Running}
+use Rattle.program.specs.declared.state.Work.{Work}
+use Rattle.program.specs.declared.state.Work.the-variants.{Pausing}
+use Rattle.tick.specs.Ticks.{workBy, tickBy, tickOf}
+use Rattle.tick.specs.Working.{workPause}
+use Rattle.tick.specs.declared.Moved.{Moved}
 use Rattle.pump.specs.Calls.{tickCall}
 use Rattle.pump.specs.Holder.{hereOf}
 use Rattle.pump.specs.Reports.{reported, movedBy}
 use Rattle.pump.specs.declared.holder.Pump.{Pump}
 use Rattle.pump.specs.declared.reports.Refusal.the-variants.{Accepted}
 use Rattle.pump.specs.declared.reports.Report.{Report}
+use Rattle.pump.proofs.Kept.{sound-tick}
 use Rattle.statement.specs.Facts.{coreOf, runOf, underWay}
 use Rattle.statement.specs.Histories.{tickIn, after, Whole}
 use Rattle.statement.specs.Outcomes.{withCore}
-use Rattle.pump.proofs.Kept.{sound-tick}
 use Rattle.statement.proofs.Always.{call-whole}
 use Rattle.statement.proofs.Soundness.{sound-iff}
 use Rattle.condition3.specs.Observations.{Event, Every, eventOf, trace}

@@ -3,19 +3,19 @@
 use Prim.Native.Nat.{ℕ, zero, suc}
 use mathlib.Core.Path.{_≡_, refl, sym, ap, _∙_, subst}
 use mathlib.Core.Bool.{true}
-use Rattle.engine.specs.Ticks.{tickBy, tickOf}
-use Rattle.engine.specs.declared.state.Mode.the-variants.{Stopped}
-use Rattle.engine.specs.declared.state.Pending.{Pending}
-use Rattle.engine.specs.declared.ticks.Moved.{Moved}
+use Rattle.program.specs.declared.state.Mode.the-variants.{Stopped}
+use Rattle.program.specs.declared.state.Pending.{Pending}
+use Rattle.tick.specs.Ticks.{tickBy, tickOf}
+use Rattle.tick.specs.declared.Moved.{Moved}
 use Rattle.pump.specs.Calls.{tickCall}
 use Rattle.pump.specs.Holder.{hereOf, isSoundPump}
 use Rattle.pump.specs.Reports.{reported, movedBy}
 use Rattle.pump.specs.declared.holder.Pump.{Pump}
 use Rattle.pump.specs.declared.reports.Refusal.the-variants.{Accepted}
 use Rattle.pump.specs.declared.reports.Report.{Report}
+use Rattle.pump.proofs.Kept.{sound-tick}
 use Rattle.statement.specs.Facts.{coreOf, runOf}
 use Rattle.statement.specs.Histories.{after}
-use Rattle.pump.proofs.Kept.{sound-tick}
 use Rattle.condition3.specs.Observations.{Event, Every, trace}
 use Rattle.condition3.specs.Sending.{ticks}
 

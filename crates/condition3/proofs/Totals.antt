@@ -11,8 +11,8 @@ use mathlib.Core.Bool.{Bool, true, false}
 use mathlib.Core.List.{List, [], _∷_}
 use Rattle.base.specs.If.{if_then_else_}
 use Rattle.drive.specs.Syringe.{stepVolume}
-use Rattle.words.specs.declared.phases.Direction.{Direction}
-use Rattle.words.specs.declared.phases.Direction.the-variants.{Infuse, Withdraw}
+use Rattle.drive.specs.declared.directions.Direction.{Direction}
+use Rattle.drive.specs.declared.directions.Direction.the-variants.{Infuse, Withdraw}
 use Rattle.pump.specs.Holder.{hereOf, freshPump, isSoundPump}
 use Rattle.pump.specs.declared.holder.Pump.{Pump}
 use Rattle.statement.specs.Facts.{coreOf}

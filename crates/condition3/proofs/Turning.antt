@@ -7,18 +7,17 @@ use Rattle.base.proofs.Choices.{false-true}
 use Rattle.words.specs.Functions.{isPhase}
 use Rattle.dispense.specs.declared.rates.Rate.{Rate}
 use Rattle.dispense.specs.declared.rates.Rate.the-variants.{NoRate, Current}
-use Rattle.engine.specs.Control.{runBy, runOn, runFrom, stopBy, stopNow}
-use Rattle.engine.specs.Edges.{unlessAlarm, footSwitch, springBy, springIn, spring}
-use Rattle.engine.specs.Entering.{fire}
-use Rattle.engine.specs.Runs.{pending, isMoving, isOperating, isRunning, isVisiting}
-use Rattle.engine.specs.declared.control.Steered.{Steered}
-use Rattle.engine.specs.declared.state.Mode.{Mode}
-use Rattle.engine.specs.declared.state.Mode.the-variants.{Stopped, Paused, Running}
-use Rattle.engine.specs.declared.state.Pending.{Pending}
-use Rattle.engine.specs.declared.state.Pending.the-variants.{NoAlarm, Raised}
-use Rattle.engine.specs.declared.state.Run.{Run}
-use Rattle.engine.specs.declared.state.Trap.{Trap}
-use Rattle.engine.specs.declared.state.Trap.the-variants.{NoTrap, Armed}
+use Rattle.program.specs.Control.{runBy, runOn, runFrom, stopBy, stopNow}
+use Rattle.program.specs.Edges.{unlessAlarm, footSwitch, springBy, springIn, spring}
+use Rattle.program.specs.Runs.{fire, pending, isMoving, isOperating, isRunning, isVisiting}
+use Rattle.program.specs.declared.control.Steered.{Steered}
+use Rattle.program.specs.declared.state.Mode.{Mode}
+use Rattle.program.specs.declared.state.Mode.the-variants.{Stopped, Paused, Running}
+use Rattle.program.specs.declared.state.Pending.{Pending}
+use Rattle.program.specs.declared.state.Pending.the-variants.{NoAlarm, Raised}
+use Rattle.program.specs.declared.state.Run.{Run}
+use Rattle.program.specs.declared.state.Trap.{Trap}
+use Rattle.program.specs.declared.state.Trap.the-variants.{NoTrap, Armed}
 use Rattle.command.specs.Obeying.{settleBy, tuneBy, tune}
 use Rattle.soundness.proofs.Runs.{by-test}
 

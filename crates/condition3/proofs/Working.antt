@@ -12,9 +12,9 @@ use Rattle.drive.specs.Rates.{hourly}
 use Rattle.drive.specs.Syringe.{threshold, inFemtolitres, volumeUnit, thousandth}
 use Rattle.drive.proofs.Bounds.{step-volume-ge}
 use Rattle.drive.proofs.Theorems.{target-fits}
+use Rattle.drive.specs.declared.directions.Direction.{Direction}
+use Rattle.drive.specs.declared.directions.Direction.the-variants.{Infuse, Withdraw}
 use Rattle.words.specs.declared.answers.Alarm.the-variants.{Program}
-use Rattle.words.specs.declared.phases.Direction.{Direction}
-use Rattle.words.specs.declared.phases.Direction.the-variants.{Infuse, Withdraw}
 use Rattle.dispense.specs.Ledgers.{mostTotal, totalOf}
 use Rattle.dispense.specs.Visits as visits
 use Rattle.dispense.specs.Visits.{givenOf, workedOf, isDone}
@@ -22,17 +22,17 @@ use Rattle.dispense.specs.declared.ledgers.Ledger.{Ledger}
 use Rattle.dispense.specs.declared.rates.Rate.{Rate}
 use Rattle.dispense.specs.declared.rates.Rate.the-variants.{NoRate, Current}
 use Rattle.dispense.specs.declared.visits.Visit.{Visit}
-use Rattle.engine.specs.Cores.{withRun, withLedger}
-use Rattle.engine.specs.Runs.{raise, doing, goOn, isRunning, isVisiting, isEntering}
-use Rattle.engine.specs.Ticks.{silent, worked, workBy, tickBy, tickOf}
-use Rattle.engine.specs.Working.{doseOf, afterVisit, giveSteps, workAt, workVisit, workPause}
-use Rattle.engine.specs.declared.state.Mode.{Mode}
-use Rattle.engine.specs.declared.state.Mode.the-variants.{Stopped, Paused, Running}
-use Rattle.engine.specs.declared.state.Run.{Run}
-use Rattle.engine.specs.declared.state.Work.{Work}
-use Rattle.engine.specs.declared.state.Work.the-variants.{Entering, Visiting, Pausing, Waiting}
-use Rattle.engine.specs.declared.ticks.Moved.{Moved}
-use Rattle.engine.specs.declared.working.Given.{Given}
+use Rattle.program.specs.Cores.{withRun, withLedger}
+use Rattle.program.specs.Runs.{raise, doing, goOn, isRunning, isVisiting, isEntering}
+use Rattle.program.specs.declared.state.Mode.{Mode}
+use Rattle.program.specs.declared.state.Mode.the-variants.{Stopped, Paused, Running}
+use Rattle.program.specs.declared.state.Run.{Run}
+use Rattle.program.specs.declared.state.Work.{Work}
+use Rattle.program.specs.declared.state.Work.the-variants.{Entering, Visiting, Pausing, Waiting}
+use Rattle.tick.specs.Ticks.{silent, worked, workBy, tickBy, tickOf}
+use Rattle.tick.specs.Working.{doseOf, afterVisit, giveSteps, workAt, workVisit, workPause}
+use Rattle.tick.specs.declared.Moved.{Moved}
+use Rattle.tick.specs.declared.working.Given.{Given}
 use Rattle.soundness.proofs.Runs.{by-test}
 use Rattle.pump.specs.Holder.{hereOf}
 use Rattle.pump.specs.declared.holder.Pump.{Pump}

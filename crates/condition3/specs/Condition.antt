@@ -6,11 +6,11 @@ use mathlib.Core.Path.{_≡_}
 use mathlib.Core.Bool.{true, false}
 use mathlib.Core.List.{List, [], _∷_}
 use Rattle.drive.specs.Syringe.{stepVolume, inFemtolitres}
-use Rattle.words.specs.declared.phases.Direction.{Direction}
-use Rattle.words.specs.declared.phases.Direction.the-variants.{Infuse, Withdraw}
+use Rattle.drive.specs.declared.directions.Direction.{Direction}
+use Rattle.drive.specs.declared.directions.Direction.the-variants.{Infuse, Withdraw}
 use lib.ListN.{length, getD}
 use Rattle.loops.specs.Loops.{noLoop}
-use Rattle.engine.specs.Runs.{isVisiting}
+use Rattle.program.specs.Runs.{isVisiting}
 use Rattle.pump.specs.declared.holder.Pump.{Pump}
 use Rattle.pump.specs.Holder.{hereOf}
 use Rattle.statement.specs.Facts.{underWay, loopsOf}

@@ -8,20 +8,20 @@ use lib.Dec.{leb, eqb}
 use Rattle.base.specs.If.{if_then_else_}
 use Rattle.drive.specs.Rates.{hourly}
 use Rattle.drive.specs.Syringe.{stepVolume, threshold, inFemtolitres}
+use Rattle.drive.specs.declared.directions.Direction.{Direction}
+use Rattle.drive.specs.declared.directions.Direction.the-variants.{Infuse, Withdraw}
 use Rattle.words.specs.Commands.{asksToClear}
 use Rattle.words.specs.Functions.{isRatePhase}
-use Rattle.words.specs.declared.phases.Direction.{Direction}
-use Rattle.words.specs.declared.phases.Direction.the-variants.{Infuse, Withdraw}
-use Rattle.line.specs.Lines.{addressIn, commandIn}
 use Rattle.dispense.specs.declared.rates.Rate.{Rate}
 use Rattle.dispense.specs.declared.rates.Rate.the-variants.{NoRate, Current}
 use Rattle.dispense.specs.declared.visits.Visit.{Visit}
-use Rattle.engine.specs.Runs.{isOperating, isEntering, isVisiting}
-use Rattle.engine.specs.declared.state.Run.{Run}
-use Rattle.engine.specs.declared.state.Mode.{Mode}
-use Rattle.engine.specs.declared.state.Mode.the-variants.{Stopped, Paused, Running}
-use Rattle.engine.specs.declared.state.Work.{Work}
-use Rattle.engine.specs.declared.state.Work.the-variants.{Entering, Visiting, Pausing, Waiting}
+use Rattle.program.specs.Runs.{isOperating, isEntering, isVisiting}
+use Rattle.program.specs.declared.state.Run.{Run}
+use Rattle.program.specs.declared.state.Mode.{Mode}
+use Rattle.program.specs.declared.state.Mode.the-variants.{Stopped, Paused, Running}
+use Rattle.program.specs.declared.state.Work.{Work}
+use Rattle.program.specs.declared.state.Work.the-variants.{Entering, Visiting, Pausing, Waiting}
+use Rattle.line.specs.Lines.{addressIn, commandIn}
 use Rattle.pump.specs.Holder.{hereOf}
 use Rattle.pump.specs.Reports.{refusalNumber}
 use Rattle.pump.specs.declared.holder.Pump.{Pump}

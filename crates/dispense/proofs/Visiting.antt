@@ -1,25 +1,14 @@
--- What follows from a visit's rules: at most four steps a tick and never past the target; the store stays below the threshold; and what a
--- sound visit tells.
+-- What follows from a visit's rules: at most four steps a tick and never past the target; the store stays below the threshold.
 -- Assumes nothing.
 use Prim.Native.Nat.{ℕ, _+_, _-_, _/_, _≤_, _<_, min}
 use mathlib.Core.Path.{_≡_}
-use mathlib.Core.Bool.{Bool, true, false, _&&_}
+use mathlib.Core.Bool.{Bool, true, false}
 use native.Mathlib.Nat.{div-lt-iff-lt-mul, mod-lt}
 use native.Mathlib.Omega.{arith}
-use lib.Dec.{ltb, eqb}
-use borrow.Author.Tests.{ltb-true, eqb-true, ne-eqb}
+use lib.Dec.{eqb}
+use borrow.Author.Tests.{ne-eqb}
 use Rattle.base.specs.If.{if_then_else_}
-use Rattle.base.proofs.Choices.{and-right}
-use Rattle.base.proofs.Each.{Each, each, either}
-use Rattle.drive.specs.Rates.{hourly}
-use Rattle.drive.specs.Syringe.{mostDiameter, threshold}
-use Rattle.drive.specs.declared.rates.RateUnit.{RateUnit}
-use Rattle.drive.proofs.Bounds.{threshold-le}
-use Rattle.drive.proofs.Theorems.{usable-iff}
-use Rattle.words.specs.declared.phases.Phase.{Phase}
-use Rattle.dispense.specs.Visits.{Working, dueOf, storeOf, stepsOf, visitTests, isSoundVisit}
-use Rattle.dispense.specs.declared.rates.Rate.{Rate}
-use Rattle.dispense.specs.declared.rates.Rate.the-variants.{Current}
+use Rattle.dispense.specs.Visits.{Working, dueOf, storeOf, stepsOf}
 use Rattle.dispense.specs.declared.visits.Visit.{Visit}
 
 module _ (v : Visit) (hourly limit : ℕ) (w : Working v hourly limit) where
@@ -55,26 +44,3 @@ module _ (v : Visit) (hourly limit : ℕ) (w : Working v hourly limit) where
   pub steps-within-target : (v .target ≡ 0 → ⊥) → v .given + stepsOf v hourly limit ≤ v .target
   unfolding stepsOf
   steps-within-target ne = omega (arith, w .within, of-left (eqb (v .target) 0) (ne-eqb _ _ ne))
-
-pub visit-tests : (d : ℕ) (p : Phase) (rate : Rate) (v : Visit) → isSoundVisit d p rate v ≡ true → Each (visitTests d p rate v)
-unfolding isSoundVisit
-visit-tests d p rate v h = each (visitTests d p rate v) h
-
--- ---- a sound visit at its rate
-pub visit-works :
-    (d : ℕ) (p : Phase) (r : ℕ) (unit : RateUnit) (v : Visit)
-    → d ≤ mostDiameter
-    → isSoundVisit d p (Current unit r) v ≡ true
-    → Working v (hourly r unit) (threshold d)
-visit-works d p r unit v hd h =
-    let t = visit-tests d p (Current unit r) v h in
-    record {
-      store-below = ltb-true (v .store) (threshold d) (t .0);
-      usable = usable-iff d r unit .0 (t .1 .1 .1 .0) .1;
-      within =
-          either (ltb (v .given) (v .target)) (eqb (p .volume) 0 && eqb (v .given) 0)
-          (λ e. omega (arith, ltb-true (v .given) (v .target) e))
-          (λ e. omega (arith, eqb-true (v .given) 0 (and-right (eqb (p .volume) 0) (eqb (v .given) 0) e)))
-          (t .1 .1 .0);
-      bounded = threshold-le d hd;
-    }

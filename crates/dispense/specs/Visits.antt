@@ -1,15 +1,8 @@
--- A rate visit's working tick.   (01, Ticks and phases, RAT; Calls)
+-- A rate visit's working tick.   (01, Ticks and phases, RAT)
 use Prim.Native.Nat.{ℕ, _+_, _-_, _*_, _/_, _%_, _≤_, _<_, min}
-use mathlib.Core.Bool.{Bool, _&&_, _||_}
-use mathlib.Core.List.{List, [], _∷_}
+use mathlib.Core.Bool.{Bool, _&&_}
 use lib.Dec.{ltb, leb, eqb}
-use Rattle.base.specs.All.{all}
 use Rattle.base.specs.If.{if_then_else_}
-use Rattle.drive.specs.Syringe.{threshold, target}
-use Rattle.words.specs.Functions.{isRatePhase}
-use Rattle.words.specs.declared.phases.Phase.{Phase}
-use Rattle.dispense.specs.Rates.{isUsableRate}
-use Rattle.dispense.specs.declared.rates.Rate.{Rate}
 use Rattle.dispense.specs.declared.visits.Visit.{Visit}
 use Rattle.dispense.specs.declared.visits.Worked.{Worked}
 
@@ -46,17 +39,3 @@ work v hourly threshold = record { visit = workedOf v hourly threshold; steps = 
 -- reaching the target ends the visit
 unfoldable pub isDone : Visit → Bool
 isDone v = ltb 0 (v .target) && leb (v .target) (v .given)
-
--- ---- a visit: the store below the threshold, the target that phase, volume and diameter give, the steps given below it (a continuous
--- visit has no target and counts none), a usable rate, in a RAT, INC or DEC phase
-abbrev pub visitTests : ℕ → Phase → Rate → Visit → List Bool
-visitTests d p rate v =
-    ltb (v .store) (threshold d)
-    ∷ eqb (v .target) (target d (p .volume))
-    ∷ (ltb (v .given) (v .target) || eqb (p .volume) 0 && eqb (v .given) 0)
-    ∷ isUsableRate d rate
-    ∷ isRatePhase (p .function)
-    ∷ []
-
-unfoldable pub isSoundVisit : ℕ → Phase → Rate → Visit → Bool
-isSoundVisit d p rate v = all (visitTests d p rate v)

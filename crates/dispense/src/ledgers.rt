@@ -2,7 +2,7 @@
 ghost use mathlib.Core.Path.{_≡_};
 ghost use Prim.Native.Nat.{_≤_};
 ghost use Rattle.dispense.specs.Ledgers.{mostTotal, figureOf, withFigure, totalOf, book, clear, fresh, isSoundLedger};
-use words::Direction;
+use drive::Direction;
 
 // A total never passes this: 10^18 fl.
 pub const MOST_TOTAL: u64 = 1_000_000_000_000_000_000;

@@ -1,8 +1,6 @@
 // A rate visit under way and its working tick.
 ghost use mathlib.Core.Path.{_≡_};
-ghost use Rattle.dispense.specs.Visits.{Working, work, isDone, isSoundVisit};
-use crate::rates::Rate;
-use words::Phase;
+ghost use Rattle.dispense.specs.Visits.{Working, work, isDone};
 
 // Steps given, step target (0: a continuous visit, which has none and counts none), and the time store.
 pub struct Visit {
@@ -56,19 +54,5 @@ impl Visit {
         ensures { λ r. ⌜ r ≡ isDone self ⌝ }
     {
         (0 < self.target) & (self.target <= self.given)
-    }
-
-    // Whether a visit to this phase, at this rate, may be under way.
-    pub fn is_sound(self, d: u16, here: Phase, rate: Rate) -> bool
-        ensures { λ r. ⌜ r ≡ isSoundVisit d here rate self ⌝ }
-    {
-        let function = here.function;
-        let threshold = drive::step_threshold(d);
-        let target = drive::step_target(d, here.volume);
-        (self.store < threshold)
-            & (self.target == target)
-            & ((self.given < self.target) | (here.volume == 0) & (self.given == 0))
-            & rate.is_usable(d)
-            & function.is_rate_phase()
     }
 }

@@ -5,8 +5,8 @@ use Prim.Native.String.{String}
 use mathlib.Core.Path.{_≡_, refl, sym, ap, ap₂, _∙_}
 use mathlib.Core.List.{List, [], _∷_, _++_, append-assoc}
 use native.Mathlib.Nat.{add-zero, zero-add, add-assoc}
-use Rattle.engine.specs.declared.state.Mode.the-variants.{Stopped}
-use Rattle.engine.specs.declared.state.Pending.the-variants.{NoAlarm}
+use Rattle.program.specs.declared.state.Mode.the-variants.{Stopped}
+use Rattle.program.specs.declared.state.Pending.the-variants.{NoAlarm}
 use Rattle.pump.specs.declared.reports.Report.{Report}
 use Rattle.pump.specs.Holder.{modelPhases}
 use Rattle.statement.specs.Facts.{runOf}

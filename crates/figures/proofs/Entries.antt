@@ -7,8 +7,8 @@ use Prim.Native.Nat.{ℕ, _+_}
 use mathlib.Core.Path.{_≡_, refl, sym, ap, ap₂, _∙_}
 use mathlib.Core.List.{_++_}
 use native.Mathlib.Nat.{zero-add}
-use Rattle.engine.specs.declared.state.Mode.the-variants.{Stopped, Running}
-use Rattle.engine.specs.declared.state.Pending.the-variants.{NoAlarm}
+use Rattle.program.specs.declared.state.Mode.the-variants.{Stopped, Running}
+use Rattle.program.specs.declared.state.Pending.the-variants.{NoAlarm}
 use Rattle.pump.specs.Holder.{modelPhases}
 use Rattle.pump.specs.declared.holder.Pump.{Pump}
 use Rattle.statement.specs.Facts.{runOf}

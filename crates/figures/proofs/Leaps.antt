@@ -11,24 +11,24 @@ use native.Mathlib.Nat.{add-zero, zero-add, add-assoc, le-refl}
 use lib.Dec.{eqb}
 use Rattle.base.proofs.Choices.{and-false}
 use Rattle.words.specs.declared.phases.Phase.{Phase}
-use Rattle.engine.specs.Cores.{withRun}
-use Rattle.engine.specs.Runs.{goOn, isRunning, isOperating, isEntering}
-use Rattle.engine.specs.Ticks.{tickOf}
-use Rattle.engine.specs.declared.state.Core.{Core}
-use Rattle.engine.specs.declared.state.Mode.{Mode}
-use Rattle.engine.specs.declared.state.Mode.the-variants.{Stopped, Paused, Running}
-use Rattle.engine.specs.declared.state.Pending.{Pending}
-use Rattle.engine.specs.declared.state.Run.{Run}
-use Rattle.engine.specs.declared.state.Work.{Work}
-use Rattle.engine.specs.declared.state.Work.the-variants.{Entering, Visiting, Pausing, Waiting}
+use Rattle.program.specs.Cores.{withRun}
+use Rattle.program.specs.Runs.{goOn, isRunning, isOperating, isEntering}
+use Rattle.program.specs.declared.state.Core.{Core}
+use Rattle.program.specs.declared.state.Mode.{Mode}
+use Rattle.program.specs.declared.state.Mode.the-variants.{Stopped, Paused, Running}
+use Rattle.program.specs.declared.state.Pending.{Pending}
+use Rattle.program.specs.declared.state.Run.{Run}
+use Rattle.program.specs.declared.state.Work.{Work}
+use Rattle.program.specs.declared.state.Work.the-variants.{Entering, Visiting, Pausing, Waiting}
+use Rattle.tick.specs.Ticks.{tickOf}
 use Rattle.pump.specs.Holder.{phaseAt, isSoundPump}
 use Rattle.pump.specs.declared.holder.Pump.{Pump}
 use Rattle.pump.specs.declared.reports.Report.{Report}
+use Rattle.pump.proofs.Kept.{sound-tick}
 use Rattle.statement.specs.Facts.{coreOf, runOf, underWay}
 use Rattle.statement.specs.Histories.{Call, after, Whole}
 use Rattle.statement.specs.Outcomes.{withCore}
 use Rattle.statement.proofs.Always.{after-whole}
-use Rattle.pump.proofs.Kept.{sound-tick}
 use Rattle.condition3.specs.Observations.{Event, Every, isAccepted, trace, tickTaken}
 use Rattle.condition3.specs.Sending.{ticks}
 use Rattle.condition3.proofs.Joining.{after-both, trace-both, ticks-both}

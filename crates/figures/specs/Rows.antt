@@ -10,8 +10,8 @@ use lib.ListN.{take}
 use Rattle.base.specs.If.{if_then_else_}
 use Rattle.base.specs.Text.{letter, text}
 use Rattle.decimal.specs.Print.{printed}
-use Rattle.engine.specs.Runs.{isOperating, isEntering}
-use Rattle.engine.specs.declared.state.Run.{Run}
+use Rattle.program.specs.Runs.{isOperating, isEntering}
+use Rattle.program.specs.declared.state.Run.{Run}
 use Rattle.pump.specs.Holder.{modelPhases, freshPump}
 use Rattle.pump.specs.declared.holder.Pump.{Pump}
 use Rattle.condition3.specs.Observations.{Event, trace, tickTaken, stepsGiven}

@@ -10,26 +10,26 @@ use lib.ListN.{length, getD, take, drop, length-drop, drop-of-length-le}
 use lib.Seq.{drop-cons}
 use borrow.Author.Tests.{eq-eqb, ne-eqb, ltb-true, ltb-false}
 use Rattle.base.proofs.Choices.{and-false}
+use Rattle.base.specs.Text.{letter, text}
 use Rattle.decimal.specs.declared.input.Reading.{Reading}
 use Rattle.decimal.specs.declared.input.Reading.the-variants.{Number, NoNumber}
 use Rattle.decimal.specs.declared.short.Short.{Short}
 use Rattle.decimal.specs.declared.short.Short.the-variants.{Digits, NoDigits}
+use Rattle.decimal.specs.Read.{readOf}
 use Rattle.drive.specs.declared.rates.RateUnit.{RateUnit}
 use Rattle.drive.specs.declared.rates.RateUnit.the-variants.{Um, Mm, Uh, Mh}
-use Rattle.words.specs.declared.phases.Direction.{Direction}
-use Rattle.words.specs.declared.phases.Direction.the-variants.{Infuse, Withdraw}
+use Rattle.drive.specs.declared.directions.Direction.{Direction}
+use Rattle.drive.specs.declared.directions.Direction.the-variants.{Infuse, Withdraw}
+use Rattle.words.specs.declared.commands.Units.{Units}
+use Rattle.words.specs.declared.commands.Units.the-variants.{Own, Given}
+use Rattle.words.specs.declared.commands.Command.{Command}
+use Rattle.words.specs.declared.commands.Command.the-variants as c
 use Rattle.line.specs.Spelling.{leads, isText}
-use Rattle.base.specs.Text.{letter, text}
-use Rattle.decimal.specs.Read.{readOf}
 use Rattle.line.specs.Arguments as asked
 use Rattle.line.specs.Arguments.{orQuery, ifNumber, ifDigits, unlessMore, unitsOf, unitsAtEnd}
 use Rattle.line.specs.Arguments.{amountOf, rateAsked, headedBy, headingOf, directionAsked, clearAsked}
-use Rattle.words.specs.declared.commands.Units.{Units}
-use Rattle.words.specs.declared.commands.Units.the-variants.{Own, Given}
 use Rattle.line.specs.declared.arguments.Heading.{Heading}
 use Rattle.line.specs.declared.arguments.Heading.the-variants as heading
-use Rattle.words.specs.declared.commands.Command.{Command}
-use Rattle.words.specs.declared.commands.Command.the-variants as c
 
 -- nothing behind the name: the query
 pub asks : (query : Command) (s : List ℕ) (setting : Command) → length s ≡ 0 → query ≡ orQuery query s setting

@@ -24,6 +24,8 @@ use Rattle.decimal.proofs.Bytes.{bytes}
 use Rattle.decimal.proofs.Theorems.{round-trip, two-digits-read, tenths-read}
 use Rattle.drive.specs.declared.rates.RateUnit.{RateUnit}
 use Rattle.drive.specs.declared.rates.RateUnit.the-variants.{Um, Mm, Uh, Mh}
+use Rattle.drive.specs.declared.directions.Direction.{Direction}
+use Rattle.drive.specs.declared.directions.Direction.the-variants.{Infuse, Withdraw}
 use Rattle.words.specs.Functions.{number, fits}
 use Rattle.words.specs.Spelling.{functionName, datumText, rateUnitName, directionName}
 use Rattle.words.specs.declared.commands.Units.{Units}
@@ -31,14 +33,12 @@ use Rattle.words.specs.declared.commands.Units.the-variants.{Given}
 use Rattle.words.specs.declared.commands.Command.the-variants as c
 use Rattle.words.specs.declared.functions.Function.{Function}
 use Rattle.words.specs.declared.functions.Function.the-variants as f
-use Rattle.words.specs.declared.phases.Direction.{Direction}
-use Rattle.words.specs.declared.phases.Direction.the-variants.{Infuse, Withdraw}
+use Rattle.words.proofs.Names.{name-length-is}
 use Rattle.line.specs.Spelling.{leads, isText}
 use Rattle.line.specs.Arguments.{ifNumber, ifDigits, unlessMore, unitsOf, unitsAtEnd, withoutUnits, amountOf}
 use Rattle.line.specs.Arguments.{rateAsked, headingOf, directionAsked}
 use Rattle.line.specs.Functions.{calledOf, pauseBy, pauseAsked, withDatum, functionBy, functionAsked}
 use Rattle.line.proofs.Asking.{sets}
-use Rattle.words.proofs.Names.{name-length-is}
 use Rattle.line.proofs.Behind.{by-called}
 
 -- ---- rates

@@ -14,15 +14,15 @@ use Rattle.decimal.specs.declared.short.Short.{Short}
 use Rattle.decimal.specs.declared.short.Short.the-variants.{Digits, NoDigits}
 use Rattle.drive.specs.declared.rates.RateUnit.{RateUnit}
 use Rattle.drive.specs.declared.rates.RateUnit.the-variants.{Um, Mm, Uh, Mh}
+use Rattle.drive.specs.declared.directions.Direction.the-variants.{Infuse, Withdraw}
 use Rattle.words.specs.Spelling.{rateUnitName, directionName}
-use Rattle.words.specs.declared.phases.Direction.the-variants.{Infuse, Withdraw}
-use Rattle.line.specs.Spelling.{isText}
 use Rattle.words.specs.declared.commands.Units.{Units}
 use Rattle.words.specs.declared.commands.Units.the-variants.{Own, Given}
-use Rattle.line.specs.declared.arguments.Heading.{Heading}
-use Rattle.line.specs.declared.arguments.Heading.the-variants as heading
 use Rattle.words.specs.declared.commands.Command.{Command}
 use Rattle.words.specs.declared.commands.Command.the-variants as c
+use Rattle.line.specs.Spelling.{isText}
+use Rattle.line.specs.declared.arguments.Heading.{Heading}
+use Rattle.line.specs.declared.arguments.Heading.the-variants as heading
 
 -- a query where nothing stands behind the name
 abbrev pub orQuery : Command → List ℕ → Command → Command

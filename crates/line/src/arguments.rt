@@ -7,9 +7,9 @@ use crate::spelling::is_text;
 use crate::spelling::letter;
 use decimal::Reading;
 use decimal::Short;
+use drive::Direction;
 use drive::RateUnit;
 use words::Command;
-use words::Direction;
 use words::Units;
 
 // A direction as DIR and CLD name it.

@@ -5,20 +5,27 @@ use mathlib.Core.Path.{_≡_, refl, sym, ap, _∙_, subst}
 use mathlib.Core.Bool.{Bool, true, false}
 use native.Mathlib.Omega.{arith}
 use Rattle.words.specs.declared.phases.Phase.{Phase}
-use Rattle.engine.specs.Sound.{Ready}
-use Rattle.engine.specs.Ticks.{tickOf}
-use Rattle.engine.specs.declared.state.Core.{Core}
-use Rattle.engine.specs.declared.ticks.Moved.{Moved}
-use Rattle.pump.specs.Calls.{tickCall}
+use Rattle.program.specs.Sound.{Ready}
+use Rattle.program.specs.declared.state.Core.{Core}
+use Rattle.tick.specs.Ticks.{tickOf}
+use Rattle.tick.specs.declared.Moved.{Moved}
 use Rattle.soundness.proofs.Cores as cores
+use Rattle.soundness.proofs.Ticks.{kept-tick}
+use Rattle.pump.specs.Calls.{tickCall}
 use Rattle.pump.specs.Holder.{phaseCount, phaseAt, isSoundPump}
 use Rattle.pump.specs.Reports.{refused, movedBy}
 use Rattle.pump.specs.declared.holder.Pump.{Pump}
 use Rattle.pump.specs.declared.reports.Refusal.the-variants.{Accepted, Unsound}
 use Rattle.pump.specs.declared.reports.Report.{Report}
-use Rattle.pump.proofs.Kept.{withPumpCore, pump-core, table-here, sound-tick, tick-whole}
+use Rattle.pump.proofs.Kept.{withPumpCore, pump-core, table-here, core-sound, sound-tick}
 use Rattle.many.specs.Ticking.{withTick, ticked}
 use Rattle.many.specs.declared.Ticked.{Ticked}
+
+-- a tick leaves a sound pump sound
+tick-whole : (p : Pump) → phaseCount p ≤ 99 → isSoundPump p ≡ true → isSoundPump (tickCall p .pump) ≡ true
+tick-whole p h e =
+    ap (λ (r : Report). isSoundPump (r .pump)) (sound-tick p e)
+    ∙ core-sound p e _ (kept-tick (phaseCount p) (phaseAt (p .phases)) (table-here p h e) (p .device .core) (pump-core p e))
 
 -- i ticks from p gave this core and these sums; a tick gives at most 255 steps in a direction
 pub record Ran (p : Pump) (core : Core) (infused withdrawn i : ℕ) : Type 0 where

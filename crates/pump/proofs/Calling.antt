@@ -10,19 +10,19 @@ use lib.Dec.{eqb}
 use lib.ListN.{length}
 use borrow.Author.Tests.{lt-ltb, le-ltb, ne-eqb}
 use Rattle.base.specs.If.{if_then_else_}
-use Rattle.answer.specs.Answers.{room, lengthIn, bufferAfter}
 use Rattle.words.specs.declared.answers.Said.{Said}
 use Rattle.words.specs.declared.phases.Phase.{Phase}
-use Rattle.engine.proofs.Parts.{core-clauses, run-clauses}
-use Rattle.engine.specs.Runs.{isOperating}
-use Rattle.engine.specs.Sound.{Ready}
-use Rattle.engine.specs.Statuses.{inHand}
-use Rattle.engine.specs.Ticks.{tickOf, silent}
-use Rattle.engine.specs.declared.state.Core.{Core}
-use Rattle.engine.specs.declared.ticks.Moved.{Moved}
+use Rattle.program.proofs.Parts.{core-clauses, run-clauses}
+use Rattle.program.specs.Runs.{isOperating}
+use Rattle.program.specs.Sound.{Ready}
+use Rattle.program.specs.Statuses.{inHand}
+use Rattle.program.specs.declared.state.Core.{Core}
+use Rattle.tick.specs.Ticks.{tickOf, silent}
+use Rattle.tick.specs.declared.Moved.{Moved}
 use Rattle.line.specs.Lines.{afterByte}
 use Rattle.line.specs.declared.lines.Arrived.{Arrived}
 use Rattle.line.specs.declared.lines.Line.{Line}
+use Rattle.answer.specs.Answers.{room, lengthIn, bufferAfter}
 use Rattle.pump.specs.Calls as calls
 use Rattle.pump.specs.Calls.{Handy, tickCall, levelled, pinCall, afterLine, answered, answeredBuffer, received, receivedBuffer}
 use Rattle.pump.specs.Calls.{byteReport, byteBuffer}

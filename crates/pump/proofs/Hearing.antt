@@ -4,6 +4,7 @@ use Prim.Native.Nat.{ℕ}
 use mathlib.Core.Path.{_≡_, sym, ap, _∙_}
 use mathlib.Core.Bool.{Bool}
 use borrow.Author.Tests.{ne-eqb}
+use Rattle.drive.specs.declared.directions.Direction.{Direction}
 use Rattle.words.specs.declared.answers.Alarm.{Alarm}
 use Rattle.words.specs.declared.answers.Reply.{Reply}
 use Rattle.words.specs.declared.answers.Said.{Said}
@@ -11,16 +12,15 @@ use Rattle.words.specs.declared.answers.Said.the-variants as s
 use Rattle.words.specs.declared.answers.Status.{Status}
 use Rattle.words.specs.declared.commands.Command.{Command}
 use Rattle.words.specs.declared.functions.Function.{Function}
-use Rattle.words.specs.declared.phases.Direction.{Direction}
 use Rattle.words.specs.declared.phases.Phase.{Phase}
-use Rattle.engine.specs.Cores.{withRun}
-use Rattle.engine.specs.Edges.{pinTwo, pinFour, pinSix}
-use Rattle.engine.specs.Runs.{pending, clearAlarm}
-use Rattle.engine.specs.Statuses.{statusOf}
-use Rattle.engine.specs.declared.state.Core.{Core}
-use Rattle.engine.specs.declared.state.Pending.{Pending}
-use Rattle.engine.specs.declared.state.Pending.the-variants.{NoAlarm, Raised}
-use Rattle.engine.specs.declared.state.Run.{Run}
+use Rattle.program.specs.Cores.{withRun}
+use Rattle.program.specs.Edges.{pinTwo, pinFour, pinSix}
+use Rattle.program.specs.Runs.{pending, clearAlarm}
+use Rattle.program.specs.Statuses.{statusOf}
+use Rattle.program.specs.declared.state.Core.{Core}
+use Rattle.program.specs.declared.state.Pending.{Pending}
+use Rattle.program.specs.declared.state.Pending.the-variants.{NoAlarm, Raised}
+use Rattle.program.specs.declared.state.Run.{Run}
 use Rattle.command.specs.Obeying.{obey}
 use Rattle.command.specs.declared.obeying.Edit.the-variants.{Keep}
 use Rattle.command.specs.declared.obeying.Obeyed.{Obeyed}

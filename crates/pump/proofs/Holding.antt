@@ -8,7 +8,7 @@ use lib.ListN.{set, replicate}
 use Rattle.base.specs.If.{if_then_else_}
 use Rattle.words.specs.Phases.{powerUp}
 use Rattle.words.specs.declared.phases.Phase.{Phase}
-use Rattle.engine.specs.declared.ticks.Moved.{Moved}
+use Rattle.tick.specs.declared.Moved.{Moved}
 use Rattle.command.specs.declared.obeying.Edit.{Edit}
 use Rattle.command.specs.declared.obeying.Edit.the-variants.{Renew}
 use Rattle.pump.specs.Device.{powerUpDevice, isSoundDevice, withCore}

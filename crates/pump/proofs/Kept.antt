@@ -1,5 +1,4 @@
--- A sound pump taken apart into its phases, its core and its line, and put together again; its phases as a table; and a tick keeps it
--- sound, whatever the number of its phases.
+-- A sound pump taken apart into its phases, its core and its line, and put together again; its phases as a table; whatever their number.
 -- Assumes nothing.
 use Prim.Native.Nat.{ℕ, zero, suc, _+_, _≤_}
 use mathlib.Core.Path.{_≡_, refl, ap, _∙_}
@@ -12,16 +11,13 @@ use Rattle.base.proofs.Each.{and-both}
 use Rattle.decimal.specs.Writable.{writable}
 use Rattle.words.specs.Phases.{isSoundPhase}
 use Rattle.words.specs.declared.phases.Phase.{Phase}
-use Rattle.engine.specs.Sound.{Ready, isSoundCore}
-use Rattle.engine.specs.declared.state.Core.{Core}
-use Rattle.soundness.specs.Kept.{Table, Kept}
-use Rattle.soundness.proofs.Ticks.{kept-tick}
+use Rattle.program.specs.Sound.{Table, Ready, isSoundCore}
+use Rattle.program.specs.declared.state.Core.{Core}
 use Rattle.line.specs.Lines.{isSoundLine}
 use Rattle.pump.specs.Calls.{tickCall, ticked}
 use Rattle.pump.specs.Device.{withCore, isSoundDevice}
 use Rattle.pump.specs.Holder.{phaseCount, stopPhase, phaseAt, hereOf, withDevice, isSoundPhases, isSoundPump}
 use Rattle.pump.specs.declared.holder.Pump.{Pump}
-use Rattle.pump.specs.declared.reports.Report.{Report}
 
 -- ---- the three parts of a pump
 module _ (p : Pump) where
@@ -81,10 +77,10 @@ abbrev pub withPumpCore : Pump → Core → Pump
 withPumpCore p s = withDevice p (withCore (p .device) s)
 
 module _ (p : Pump) where
-  pub core-sound : isSoundPump p ≡ true → (s : Core) → Kept (phaseCount p) (phaseAt (p .phases)) s → isSoundPump (withPumpCore p s) ≡ true
+  pub core-sound : isSoundPump p ≡ true → (s : Core) → isSoundCore (phaseCount p) s (phaseAt (p .phases) (s .run .place .current)) ≡ true → isSoundPump (withPumpCore p s) ≡ true
   core-sound e s k = pump-sound (withPumpCore p s) (pump-phases p e) k (pump-line p e)
 
-  -- ---- a tick of a sound pump is what the rules give, and leaves it sound
+  -- ---- a tick of a sound pump is what the rules give
   pub sound-tick : isSoundPump p ≡ true → tickCall p ≡ ticked p
   unfolding tickCall
   sound-tick e = rw e refl
@@ -92,8 +88,3 @@ module _ (p : Pump) where
   module _ (h : phaseCount p ≤ 99) (e : isSoundPump p ≡ true) where
     pub table-here : Table (phaseCount p) (phaseAt (p .phases))
     table-here = table-of (p .phases) h (pump-phases p e)
-
-    pub tick-whole : isSoundPump (tickCall p .pump) ≡ true
-    tick-whole =
-        ap (λ (r : Report). isSoundPump (r .pump)) (sound-tick e)
-        ∙ core-sound e _ (kept-tick (phaseCount p) (phaseAt (p .phases)) table-here (p .device .core) (pump-core p e))

@@ -14,10 +14,10 @@ use lib.Seq.{drop-cons}
 use borrow.Author.Tests.{leb-true, leb-false}
 use Rattle.base.proofs.Choices.{and-left, and-right, false-true}
 use Rattle.drive.specs.declared.rates.RateUnit.the-variants.{Um}
+use Rattle.drive.specs.declared.directions.Direction.the-variants.{Infuse}
 use Rattle.words.specs.Functions.{isPhase}
 use Rattle.words.specs.Phases.{powerUp, isSoundPhase}
 use Rattle.words.specs.declared.functions.Function.the-variants as f
-use Rattle.words.specs.declared.phases.Direction.the-variants.{Infuse}
 use Rattle.words.specs.declared.phases.Phase.{Phase}
 use Rattle.pump.specs.Holder.{phaseCount, stopPhase, phaseAt, withPhases, withPhase, isSoundPhases}
 use Rattle.pump.specs.declared.holder.Pump.{Pump}

@@ -5,12 +5,12 @@ use mathlib.Core.List.{List}
 use lib.Dec.{ltb, eqb}
 use lib.ListN.{length}
 use Rattle.base.specs.If.{if_then_else_}
-use Rattle.answer.specs.Answers.{room, lengthIn, bufferAfter}
 use Rattle.words.specs.declared.answers.Said.{Said}
-use Rattle.engine.specs.Statuses.{inHand}
-use Rattle.engine.specs.Ticks.{tickOf}
+use Rattle.program.specs.Statuses.{inHand}
+use Rattle.tick.specs.Ticks.{tickOf}
 use Rattle.line.specs.Lines.{afterByte}
 use Rattle.line.specs.declared.lines.Arrived.{Arrived}
+use Rattle.answer.specs.Answers.{room, lengthIn, bufferAfter}
 use Rattle.pump.specs.Device.{withLine, edge, hearLine, said}
 use Rattle.pump.specs.Holder.{phaseCount, phaseAt, hereOf, withDevice, edited, isSoundPump}
 use Rattle.pump.specs.Reports.{refused, reported, movedBy}

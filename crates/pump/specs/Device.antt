@@ -4,22 +4,22 @@ use Prim.Native.Nat.{ℕ}
 use mathlib.Core.Bool.{Bool, _&&_}
 use lib.Dec.{eqb}
 use Rattle.base.specs.If.{if_then_else_}
+use Rattle.drive.specs.declared.directions.Direction.{Direction}
 use Rattle.words.specs.declared.answers.Said.{Said}
 use Rattle.words.specs.declared.answers.Said.the-variants as s
 use Rattle.words.specs.declared.functions.Function.{Function}
-use Rattle.words.specs.declared.phases.Direction.{Direction}
 use Rattle.words.specs.declared.phases.Phase.{Phase}
+use Rattle.program.specs.Cores.{powerUpCore, withRun}
+use Rattle.program.specs.Edges.{pinTwo, pinFour, pinSix}
+use Rattle.program.specs.Runs.{pending, clearAlarm}
+use Rattle.program.specs.Sound.{isSoundCore}
+use Rattle.program.specs.Statuses.{statusOf}
+use Rattle.program.specs.declared.state.Core.{Core}
+use Rattle.program.specs.declared.state.Pending.{Pending}
+use Rattle.program.specs.declared.state.Pending.the-variants.{NoAlarm, Raised}
 use Rattle.command.specs.Obeying.{obey}
 use Rattle.command.specs.declared.obeying.Edit.the-variants.{Keep}
 use Rattle.command.specs.declared.obeying.Obeyed.{Obeyed}
-use Rattle.engine.specs.Cores.{powerUpCore, withRun}
-use Rattle.engine.specs.Edges.{pinTwo, pinFour, pinSix}
-use Rattle.engine.specs.Runs.{pending, clearAlarm}
-use Rattle.engine.specs.Sound.{isSoundCore}
-use Rattle.engine.specs.Statuses.{statusOf}
-use Rattle.engine.specs.declared.state.Core.{Core}
-use Rattle.engine.specs.declared.state.Pending.{Pending}
-use Rattle.engine.specs.declared.state.Pending.the-variants.{NoAlarm, Raised}
 use Rattle.line.specs.Lines.{emptyLine, isSoundLine, addressIn, commandIn}
 use Rattle.line.specs.declared.lines.Line.{Line}
 use Rattle.pump.specs.declared.device.Device.{Device}

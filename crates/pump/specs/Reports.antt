@@ -2,7 +2,7 @@
 use Prim.Native.Nat.{ℕ}
 use mathlib.Core.Bool.{Bool}
 use Rattle.base.specs.If.{if_then_else_}
-use Rattle.engine.specs.declared.ticks.Moved.{Moved}
+use Rattle.tick.specs.declared.Moved.{Moved}
 use Rattle.pump.specs.Device.{withCore}
 use Rattle.pump.specs.Holder.{withDevice}
 use Rattle.pump.specs.declared.holder.Pump.{Pump}

@@ -20,9 +20,9 @@ impl Pump {
     {
         let checked = self.checked();
         let moved = if checked.sound {
-            self.device.core.tick(checked.here, Pump::PHASES)
+            tick::tick(self.device.core, checked.here, Pump::PHASES)
         } else {
-            self.device.core.silent()
+            tick::silent(self.device.core)
         };
         self.moved_by(moved, Refusal::unless(checked.sound))
     }

@@ -2,7 +2,7 @@
 ghost use mathlib.Core.Path.{_≡_};
 ghost use Rattle.pump.specs.Reports.{refusalNumber, refused, reported, unless, movedBy};
 use crate::holder::Pump;
-use engine::Moved;
+use tick::Moved;
 
 pub enum Refusal {
     Accepted,

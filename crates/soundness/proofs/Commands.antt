@@ -12,24 +12,26 @@ use Rattle.decimal.specs.Writable.{writable}
 use Rattle.decimal.proofs.Grid.{writable-grid}
 use Rattle.drive.specs.Rates.{usable}
 use Rattle.drive.specs.Syringe.{diameter}
+use Rattle.drive.specs.Directions.{reverse}
+use Rattle.drive.specs.declared.directions.Direction.{Direction}
 use Rattle.words.specs.Commands.{amount}
 use Rattle.words.specs.Functions.{number, fits, isPhase, isFlow, isRamp, isRatePhase}
-use Rattle.words.specs.Phases.{isSoundPhase, reverse}
+use Rattle.words.specs.Phases.{isSoundPhase}
 use Rattle.words.specs.declared.commands.Command.{Command}
 use Rattle.words.specs.declared.commands.Command.the-variants as c
 use Rattle.words.specs.declared.commands.Units.{Units}
 use Rattle.words.specs.declared.functions.Function.{Function}
-use Rattle.words.specs.declared.phases.Direction.{Direction}
 use Rattle.words.specs.declared.phases.Phase.{Phase}
 use Rattle.dispense.specs.declared.rates.Rate.{Rate}
 use Rattle.dispense.specs.declared.rates.Rate.the-variants.{NoRate, Current}
-use Rattle.engine.specs.Cores.{withRun, withChosen}
-use Rattle.engine.specs.Runs.{withRate, isVisiting, isRunning, isOperating}
-use Rattle.engine.specs.Sound.{isSoundCore}
-use Rattle.engine.specs.Statuses.{inHand}
-use Rattle.engine.specs.declared.state.Core.{Core}
-use Rattle.engine.specs.declared.state.Mode.{Mode}
-use Rattle.engine.specs.declared.state.Mode.the-variants.{Stopped, Paused, Running}
+use Rattle.program.specs.Cores.{withRun, withChosen}
+use Rattle.program.specs.Runs.{withRate, isVisiting, isRunning, isOperating}
+use Rattle.program.specs.Sound.{Table, isSoundCore}
+use Rattle.program.specs.Statuses.{inHand}
+use Rattle.program.specs.declared.state.Core.{Core}
+use Rattle.program.specs.declared.state.Mode.{Mode}
+use Rattle.program.specs.declared.state.Mode.the-variants.{Stopped, Paused, Running}
+use Rattle.program.proofs.Parts.{RunClauses, run-clauses, run-sound, CoreClauses, core-sound}
 use Rattle.command.specs.Judging as judging
 use Rattle.command.specs.Obeying as obeying
 use Rattle.command.specs.Obeying.{decide, settleBy, settle, setPhaseTo, tuneBy, obey}
@@ -38,10 +40,9 @@ use Rattle.command.specs.declared.judging.Verdict.{Verdict}
 use Rattle.command.specs.declared.judging.Verdict.the-variants.{Accepted, NotApplicable, OutOfRange}
 use Rattle.command.specs.declared.obeying.Edit.{Edit}
 use Rattle.command.specs.declared.obeying.Edit.the-variants.{Keep, Write}
-use Rattle.soundness.specs.Kept.{Table, Kept, withPhase, WellBy, Well}
+use Rattle.soundness.specs.Kept.{Kept, withPhase, WellBy, Well}
 use Rattle.soundness.proofs.Control.{run-on-kept, run-from-kept, stop-now-kept}
 use Rattle.soundness.proofs.Cores.{clauses, run-kept, with-run-kept, given-sound, reset-sound}
-use Rattle.engine.proofs.Parts.{RunClauses, run-clauses, run-sound, CoreClauses, core-sound}
 use Rattle.soundness.proofs.Runs.{by-test, phase-bounds, Going, going-of, going-with, within}
 use Rattle.soundness.proofs.Settings as set
 use Rattle.soundness.proofs.Working.{figure-sound, rate-not-stop}

@@ -10,18 +10,18 @@ use Rattle.base.proofs.Choices.{and-left, false-true}
 use Rattle.words.specs.Functions.{number, datum, isPhase}
 use Rattle.words.specs.declared.phases.Phase.{Phase}
 use Rattle.dispense.specs.declared.rates.Rate.{Rate}
-use Rattle.engine.specs.Control.{runBy, runOn, runFrom, stopBy, stopNow}
-use Rattle.engine.specs.Runs.{withMode, goOn, isWaiting, isRunning, isOperating, isMoving, calm, clearAlarm}
-use Rattle.engine.specs.Sound.{isSoundWork, isSoundMode}
-use Rattle.engine.specs.declared.control.Steered.{Steered}
-use Rattle.engine.specs.declared.state.Mode.{Mode}
-use Rattle.engine.specs.declared.state.Mode.the-variants.{Stopped, Paused, Running}
-use Rattle.engine.specs.declared.state.Pending.the-variants.{NoAlarm}
-use Rattle.engine.specs.declared.state.Run.{Run}
-use Rattle.engine.specs.declared.state.Work.{Work}
-use Rattle.engine.specs.declared.state.Work.the-variants.{Entering, Visiting, Pausing, Waiting}
-use Rattle.soundness.specs.Kept.{Table, KeptRun}
-use Rattle.engine.proofs.Parts.{RunClauses, run-clauses, run-sound}
+use Rattle.program.specs.Control.{runBy, runOn, runFrom, stopBy, stopNow}
+use Rattle.program.specs.Runs.{withMode, goOn, isWaiting, isRunning, isOperating, isMoving, calm, clearAlarm}
+use Rattle.program.specs.Sound.{Table, isSoundWork, isSoundMode}
+use Rattle.program.specs.declared.control.Steered.{Steered}
+use Rattle.program.specs.declared.state.Mode.{Mode}
+use Rattle.program.specs.declared.state.Mode.the-variants.{Stopped, Paused, Running}
+use Rattle.program.specs.declared.state.Pending.the-variants.{NoAlarm}
+use Rattle.program.specs.declared.state.Run.{Run}
+use Rattle.program.specs.declared.state.Work.{Work}
+use Rattle.program.specs.declared.state.Work.the-variants.{Entering, Visiting, Pausing, Waiting}
+use Rattle.program.proofs.Parts.{RunClauses, run-clauses, run-sound}
+use Rattle.soundness.specs.Kept.{KeptRun}
 use Rattle.soundness.proofs.Runs.{by-test, phase-bounds, fresh-kept, going-of, next-kept, stop-kept, within}
 
 -- a trigger wait stands in no phase that stops

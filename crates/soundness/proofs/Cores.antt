@@ -10,17 +10,17 @@ use Rattle.words.specs.declared.answers.Alarm.the-variants.{PowerUp}
 use Rattle.words.specs.declared.phases.Phase.{Phase}
 use Rattle.dispense.specs.Ledgers.{isSoundLedger}
 use Rattle.dispense.specs.declared.ledgers.Ledger.{Ledger}
-use Rattle.engine.specs.Cores.{withRun, withLedger, withOutput, withPins, powerUpCore, resetCore}
-use Rattle.engine.specs.Runs.{freshAt}
-use Rattle.engine.specs.Sound.{Ready, isSoundWork, isSoundRun, isSoundCore}
-use Rattle.engine.specs.declared.state.Core.{Core}
-use Rattle.engine.specs.declared.state.Mode.the-variants.{Stopped}
-use Rattle.engine.specs.declared.state.Pending.{Pending}
-use Rattle.engine.specs.declared.state.Pending.the-variants.{NoAlarm, Raised}
-use Rattle.engine.specs.declared.state.Pins.{Pins}
-use Rattle.engine.specs.declared.state.Run.{Run}
-use Rattle.soundness.specs.Kept.{Table, Kept, KeptRun}
-use Rattle.engine.proofs.Parts.{CoreClauses, core-clauses, core-sound, run-sound}
+use Rattle.program.specs.Cores.{withRun, withLedger, withOutput, withPins, powerUpCore, resetCore}
+use Rattle.program.specs.Runs.{freshAt}
+use Rattle.program.specs.Sound.{Table, Ready, isSoundWork, isSoundRun, isSoundCore}
+use Rattle.program.specs.declared.state.Core.{Core}
+use Rattle.program.specs.declared.state.Mode.the-variants.{Stopped}
+use Rattle.program.specs.declared.state.Pending.{Pending}
+use Rattle.program.specs.declared.state.Pending.the-variants.{NoAlarm, Raised}
+use Rattle.program.specs.declared.state.Pins.{Pins}
+use Rattle.program.specs.declared.state.Run.{Run}
+use Rattle.program.proofs.Parts.{CoreClauses, core-clauses, core-sound, run-sound}
+use Rattle.soundness.specs.Kept.{Kept, KeptRun}
 use Rattle.soundness.proofs.Runs.{fresh-sound}
 
 module _ (phases : ℕ) (look : ℕ → Phase) (s : Core) (kept : Kept phases look s) where

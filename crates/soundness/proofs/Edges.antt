@@ -4,24 +4,24 @@ use Prim.Native.Nat.{ℕ}
 use mathlib.Core.Path.{_≡_, refl}
 use mathlib.Core.Bool.{Bool, true}
 use Rattle.words.specs.declared.phases.Phase.{Phase}
-use Rattle.engine.specs.Cores.{withRun}
-use Rattle.engine.specs.Edges.{falls, withTwo, withFour, unlessAlarm, footSwitch, pinTwo, springBy, springIn, spring, pinFour, pinSix}
-use Rattle.engine.specs.Runs.{isMoving, pending, clearAlarm}
-use Rattle.engine.specs.Sound.{isSoundTrap}
-use Rattle.engine.specs.declared.control.Steered.{Steered}
-use Rattle.engine.specs.declared.state.Core.{Core}
-use Rattle.engine.specs.declared.state.Mode.{Mode}
-use Rattle.engine.specs.declared.state.Mode.the-variants.{Stopped, Paused, Running}
-use Rattle.engine.specs.declared.state.Pending.{Pending}
-use Rattle.engine.specs.declared.state.Pending.the-variants.{NoAlarm, Raised}
-use Rattle.engine.specs.declared.state.Run.{Run}
-use Rattle.engine.specs.declared.state.Trap.{Trap}
-use Rattle.engine.specs.declared.state.Trap.the-variants.{NoTrap, Armed}
-use Rattle.soundness.specs.Kept.{Table, Kept, KeptRun}
+use Rattle.program.specs.Cores.{withRun}
+use Rattle.program.specs.Edges.{falls, withTwo, withFour, unlessAlarm, footSwitch, pinTwo, springBy, springIn, spring, pinFour, pinSix}
+use Rattle.program.specs.Runs.{isMoving, pending, clearAlarm}
+use Rattle.program.specs.Sound.{Table, isSoundTrap}
+use Rattle.program.specs.declared.control.Steered.{Steered}
+use Rattle.program.specs.declared.state.Core.{Core}
+use Rattle.program.specs.declared.state.Mode.{Mode}
+use Rattle.program.specs.declared.state.Mode.the-variants.{Stopped, Paused, Running}
+use Rattle.program.specs.declared.state.Pending.{Pending}
+use Rattle.program.specs.declared.state.Pending.the-variants.{NoAlarm, Raised}
+use Rattle.program.specs.declared.state.Run.{Run}
+use Rattle.program.specs.declared.state.Trap.{Trap}
+use Rattle.program.specs.declared.state.Trap.the-variants.{NoTrap, Armed}
+use Rattle.program.proofs.Parts.{RunClauses, run-clauses}
+use Rattle.soundness.specs.Kept.{Kept, KeptRun}
 use Rattle.soundness.proofs.Control.{clear-alarm-kept, stop-now-kept, run-on-kept}
 use Rattle.soundness.proofs.Cores.{run-kept, with-run-kept, levels-kept}
 use Rattle.soundness.proofs.Entering.{fire-kept}
-use Rattle.engine.proofs.Parts.{RunClauses, run-clauses}
 use Rattle.soundness.proofs.Runs.{by-test, going-of}
 
 module _ (phases : ℕ) (look : ℕ → Phase) (d : ℕ) (r : Run) (kept : KeptRun phases look d r) where

@@ -24,19 +24,19 @@ use Rattle.loops.proofs.Soundness.{none-sound}
 use Rattle.dispense.specs.Rates.{thousandths, increase, decrease, isUsableRate}
 use Rattle.dispense.specs.declared.rates.Rate.{Rate}
 use Rattle.dispense.specs.declared.rates.Rate.the-variants.{NoRate, Current}
-use Rattle.engine.specs.Entering.{beginVisit, enterRate, enterPause, startLoop, passLoop, endLoop, jumpIf, fire, armTrap, clearTrap}
-use Rattle.engine.specs.Entering.{enterBy, enter}
-use Rattle.engine.specs.Runs.{withRate, withLoops, withTrap, doing}
-use Rattle.engine.specs.Sound.{isSoundTrap}
-use Rattle.engine.specs.declared.state.Pins.{Pins}
-use Rattle.engine.specs.declared.state.Pending.the-variants.{NoAlarm, Raised}
-use Rattle.engine.specs.declared.state.Run.{Run}
-use Rattle.engine.specs.declared.state.Trap.{Trap}
-use Rattle.engine.specs.declared.state.Trap.the-variants.{NoTrap, Armed}
-use Rattle.engine.specs.declared.state.Work.{Work}
-use Rattle.engine.specs.declared.state.Work.the-variants.{Visiting, Pausing, Waiting}
-use Rattle.soundness.specs.Kept.{Table, KeptRun}
-use Rattle.engine.proofs.Parts.{PhaseClauses, phase-clauses}
+use Rattle.program.specs.Runs.{withRate, withLoops, withTrap, doing, fire}
+use Rattle.program.specs.Sound.{Table, isSoundTrap}
+use Rattle.program.specs.declared.state.Pins.{Pins}
+use Rattle.program.specs.declared.state.Pending.the-variants.{NoAlarm, Raised}
+use Rattle.program.specs.declared.state.Run.{Run}
+use Rattle.program.specs.declared.state.Trap.{Trap}
+use Rattle.program.specs.declared.state.Trap.the-variants.{NoTrap, Armed}
+use Rattle.program.specs.declared.state.Work.{Work}
+use Rattle.program.specs.declared.state.Work.the-variants.{Visiting, Pausing, Waiting}
+use Rattle.program.proofs.Parts.{PhaseClauses, phase-clauses}
+use Rattle.tick.specs.Entering.{beginVisit, enterRate, enterPause, startLoop, passLoop, endLoop, jumpIf, armTrap, clearTrap}
+use Rattle.tick.specs.Entering.{enterBy, enter}
+use Rattle.soundness.specs.Kept.{KeptRun}
 use Rattle.soundness.proofs.Runs.{by-test, Going, going-with, to-kept, next-kept, jump-kept, doing-kept, stop-kept, within}
 use Rattle.soundness.proofs.Visits.{begun-sound}
 

@@ -18,17 +18,17 @@ use Rattle.loops.specs.declared.Loops.{Loops}
 use Rattle.loops.proofs.Soundness.{none-sound}
 use Rattle.dispense.specs.Rates.{thousandths}
 use Rattle.dispense.specs.declared.rates.Rate.{Rate}
-use Rattle.engine.specs.Runs.{withPlace, freshAt, doing, goTo, goOn}
-use Rattle.engine.specs.Sound.{isSoundTrap, isSoundWork, isSoundMode}
-use Rattle.engine.specs.declared.state.Mode.{Mode}
-use Rattle.engine.specs.declared.state.Mode.the-variants.{Stopped, Paused, Running}
-use Rattle.engine.specs.declared.state.Pending.{Pending}
-use Rattle.engine.specs.declared.state.Run.{Run}
-use Rattle.engine.specs.declared.state.Trap.{Trap}
-use Rattle.engine.specs.declared.state.Work.{Work}
-use Rattle.engine.specs.declared.state.Work.the-variants.{Entering}
-use Rattle.soundness.specs.Kept.{Table, KeptRun}
-use Rattle.engine.proofs.Parts.{RunClauses, run-sound}
+use Rattle.program.specs.Runs.{withPlace, freshAt, doing, goTo, goOn}
+use Rattle.program.specs.Sound.{Table, isSoundTrap, isSoundWork, isSoundMode}
+use Rattle.program.specs.declared.state.Mode.{Mode}
+use Rattle.program.specs.declared.state.Mode.the-variants.{Stopped, Paused, Running}
+use Rattle.program.specs.declared.state.Pending.{Pending}
+use Rattle.program.specs.declared.state.Run.{Run}
+use Rattle.program.specs.declared.state.Trap.{Trap}
+use Rattle.program.specs.declared.state.Work.{Work}
+use Rattle.program.specs.declared.state.Work.the-variants.{Entering}
+use Rattle.program.proofs.Parts.{RunClauses, run-sound}
+use Rattle.soundness.specs.Kept.{KeptRun}
 
 -- what both ways out of a test have
 pub by-test : {A : Type 0} (P : A → Type 0) (t : Bool) {a b : A} → (t ≡ true → P a) → (t ≡ false → P b) → P (if t then a else b)

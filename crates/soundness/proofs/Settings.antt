@@ -9,28 +9,27 @@ use Rattle.decimal.specs.Writable.{writable}
 use Rattle.drive.specs.Rates.{usable}
 use Rattle.drive.specs.Syringe.{diameter}
 use Rattle.drive.specs.declared.rates.RateUnit.{RateUnit}
+use Rattle.drive.specs.declared.directions.Direction.{Direction}
 use Rattle.words.specs.Functions.{fits}
 use Rattle.words.specs.Phases.{isSoundPhase}
 use Rattle.words.specs.declared.functions.Function.{Function}
-use Rattle.words.specs.declared.phases.Direction.{Direction}
 use Rattle.words.specs.declared.phases.Phase.{Phase}
-use Rattle.dispense.specs.Visits.{visitTests, isSoundVisit}
 use Rattle.dispense.specs.declared.rates.Rate.{Rate}
 use Rattle.dispense.specs.declared.rates.Rate.the-variants.{Current}
-use Rattle.engine.specs.Cores.{withSyringe}
-use Rattle.engine.specs.Runs.{isEntering, isRunning, isOperating}
-use Rattle.engine.specs.Sound.{idleTests, isSoundMode, isSoundWork, isSoundRun, isSoundCore}
-use Rattle.engine.specs.declared.state.Core.{Core}
-use Rattle.engine.specs.declared.state.Mode.{Mode}
-use Rattle.engine.specs.declared.state.Mode.the-variants.{Stopped, Paused, Running}
-use Rattle.engine.specs.declared.state.Pending.the-variants.{NoAlarm}
-use Rattle.engine.specs.declared.state.Run.{Run}
-use Rattle.engine.specs.declared.state.Work.{Work}
-use Rattle.engine.specs.declared.state.Work.the-variants.{Entering, Visiting, Pausing, Waiting}
+use Rattle.program.specs.Cores.{withSyringe}
+use Rattle.program.specs.Runs.{isEntering, isRunning, isOperating}
+use Rattle.program.specs.Sound.{visitTests, isSoundVisit, idleTests, isSoundMode, isSoundWork, isSoundRun, isSoundCore}
+use Rattle.program.specs.declared.state.Core.{Core}
+use Rattle.program.specs.declared.state.Mode.{Mode}
+use Rattle.program.specs.declared.state.Mode.the-variants.{Stopped, Paused, Running}
+use Rattle.program.specs.declared.state.Pending.the-variants.{NoAlarm}
+use Rattle.program.specs.declared.state.Run.{Run}
+use Rattle.program.specs.declared.state.Work.{Work}
+use Rattle.program.specs.declared.state.Work.the-variants.{Entering, Visiting, Pausing, Waiting}
+use Rattle.program.proofs.Parts.{PhaseClauses, phase-clauses, phase-sound, RunClauses, run-clauses, run-sound}
+use Rattle.program.proofs.Parts.{CoreClauses, core-sound}
 use Rattle.command.specs.Obeying.{settleBy, settle}
 use Rattle.command.specs.Phases.{withStored, withVolume, withDirection, withFunction}
-use Rattle.engine.proofs.Parts.{PhaseClauses, phase-clauses, phase-sound, RunClauses, run-clauses, run-sound}
-use Rattle.engine.proofs.Parts.{CoreClauses, core-sound}
 use Rattle.soundness.proofs.Runs.{fresh-sound}
 
 -- ---- a sound phase with one thing set

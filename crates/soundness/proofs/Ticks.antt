@@ -3,20 +3,20 @@
 use Prim.Native.Nat.{ℕ}
 use mathlib.Core.Path.{_≡_, refl}
 use mathlib.Core.Bool.{true}
-use Rattle.words.specs.declared.phases.Direction.{Direction}
-use Rattle.words.specs.declared.phases.Direction.the-variants.{Infuse, Withdraw}
+use Rattle.drive.specs.declared.directions.Direction.{Direction}
+use Rattle.drive.specs.declared.directions.Direction.the-variants.{Infuse, Withdraw}
 use Rattle.words.specs.declared.phases.Phase.{Phase}
-use Rattle.engine.specs.Sound.{isSoundWork}
-use Rattle.engine.specs.Ticks.{entered, steps, workBy, tickBy, tickOf}
-use Rattle.engine.specs.declared.state.Core.{Core}
-use Rattle.engine.specs.declared.state.Mode.{Mode}
-use Rattle.engine.specs.declared.state.Mode.the-variants.{Stopped, Paused, Running}
-use Rattle.engine.specs.declared.state.Work.{Work}
-use Rattle.engine.specs.declared.state.Work.the-variants.{Entering, Visiting, Pausing, Waiting}
-use Rattle.soundness.specs.Kept.{Table, Kept}
+use Rattle.program.specs.Sound.{Table, isSoundWork}
+use Rattle.program.specs.declared.state.Core.{Core}
+use Rattle.program.specs.declared.state.Mode.{Mode}
+use Rattle.program.specs.declared.state.Mode.the-variants.{Stopped, Paused, Running}
+use Rattle.program.specs.declared.state.Work.{Work}
+use Rattle.program.specs.declared.state.Work.the-variants.{Entering, Visiting, Pausing, Waiting}
+use Rattle.program.proofs.Parts.{run-clauses}
+use Rattle.tick.specs.Ticks.{entered, steps, workBy, tickBy, tickOf}
+use Rattle.soundness.specs.Kept.{Kept}
 use Rattle.soundness.proofs.Cores.{clauses, run-kept, given-sound, with-run-kept, levels-kept}
 use Rattle.soundness.proofs.Entering.{enter-kept}
-use Rattle.engine.proofs.Parts.{run-clauses}
 use Rattle.soundness.proofs.Runs.{Going, going-of}
 use Rattle.soundness.proofs.Working.{visit-kept, pause-kept}
 

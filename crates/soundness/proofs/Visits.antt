@@ -14,9 +14,10 @@ use Rattle.drive.specs.Syringe.{threshold, target}
 use Rattle.words.specs.Functions.{isRatePhase}
 use Rattle.words.specs.declared.phases.Phase.{Phase}
 use Rattle.dispense.specs.Rates.{isUsableRate}
-use Rattle.dispense.specs.Visits.{visitTests, isSoundVisit, stepsOf, givenOf, storeOf, workedOf, isDone}
+use Rattle.dispense.specs.Visits.{stepsOf, givenOf, storeOf, workedOf, isDone}
 use Rattle.dispense.specs.declared.rates.Rate.{Rate}
 use Rattle.dispense.specs.declared.visits.Visit.{Visit}
+use Rattle.program.specs.Sound.{visitTests, isSoundVisit}
 
 positive : (n : ℕ) → ltb 0 (suc n) ≡ true
 positive n = lt-ltb 0 (suc n) (omega arith)

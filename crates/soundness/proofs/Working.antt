@@ -10,25 +10,25 @@ use Rattle.base.proofs.Choices.{and-left, and-right}
 use Rattle.base.proofs.Each.{each, and-both}
 use Rattle.drive.specs.Rates.{hourly}
 use Rattle.drive.specs.Syringe.{diameter, threshold}
+use Rattle.drive.specs.declared.directions.Direction.{Direction}
+use Rattle.drive.specs.declared.directions.Direction.the-variants.{Infuse, Withdraw}
 use Rattle.words.specs.Functions.{number, pauseTicks}
 use Rattle.words.specs.declared.answers.Alarm.the-variants.{Program}
 use Rattle.words.specs.declared.functions.Function.{Function}
-use Rattle.words.specs.declared.phases.Direction.{Direction}
-use Rattle.words.specs.declared.phases.Direction.the-variants.{Infuse, Withdraw}
 use Rattle.words.specs.declared.phases.Phase.{Phase}
 use Rattle.dispense.specs.Ledgers.{mostTotal, totalOf, withFigure, isSoundLedger}
-use Rattle.dispense.specs.Visits.{visitTests, isSoundVisit, workedOf, isDone}
+use Rattle.dispense.specs.Visits.{workedOf, isDone}
 use Rattle.dispense.specs.declared.ledgers.Ledger.{Ledger}
 use Rattle.dispense.specs.declared.rates.Rate.{Rate}
 use Rattle.dispense.specs.declared.rates.Rate.the-variants.{NoRate, Current}
 use Rattle.dispense.specs.declared.visits.Visit.{Visit}
-use Rattle.engine.specs.Sound.{isSoundWork}
-use Rattle.engine.specs.Working.{doseOf, afterVisit, giveSteps, workAt, workVisit, workPause}
-use Rattle.engine.specs.declared.state.Pending.the-variants.{Raised}
-use Rattle.engine.specs.declared.state.Run.{Run}
-use Rattle.engine.specs.declared.state.Work.the-variants.{Visiting, Pausing}
-use Rattle.engine.specs.declared.working.Given.{Given}
-use Rattle.soundness.specs.Kept.{Table, KeptRun}
+use Rattle.program.specs.Sound.{Table, visitTests, isSoundVisit, isSoundWork}
+use Rattle.program.specs.declared.state.Pending.the-variants.{Raised}
+use Rattle.program.specs.declared.state.Run.{Run}
+use Rattle.program.specs.declared.state.Work.the-variants.{Visiting, Pausing}
+use Rattle.tick.specs.Working.{doseOf, afterVisit, giveSteps, workAt, workVisit, workPause}
+use Rattle.tick.specs.declared.working.Given.{Given}
+use Rattle.soundness.specs.Kept.{KeptRun}
 use Rattle.soundness.proofs.Entering.{threshold-above}
 use Rattle.soundness.proofs.Runs.{by-test, Going, next-kept, doing-kept, stop-kept, within}
 use Rattle.soundness.proofs.Visits.{worked-sound}

@@ -5,21 +5,14 @@ use mathlib.Core.Bool.{true}
 use lib.Dec.{eqb}
 use Rattle.base.specs.If.{if_then_else_}
 use Rattle.words.specs.Phases.{isSoundPhase}
-use Rattle.words.specs.declared.functions.Function.the-variants as f
 use Rattle.words.specs.declared.phases.Phase.{Phase}
-use Rattle.engine.specs.Sound.{isSoundCore, isSoundRun, isSoundWork}
-use Rattle.engine.specs.Statuses.{inHand}
-use Rattle.engine.specs.declared.state.Core.{Core}
-use Rattle.engine.specs.declared.state.Run.{Run}
+use Rattle.program.specs.Sound.{isSoundCore, isSoundRun, isSoundWork}
+use Rattle.program.specs.Statuses.{inHand}
+use Rattle.program.specs.declared.state.Core.{Core}
+use Rattle.program.specs.declared.state.Run.{Run}
 use Rattle.command.specs.declared.obeying.Edit.{Edit}
 use Rattle.command.specs.declared.obeying.Edit.the-variants.{Keep, Write, Renew}
 use Rattle.command.specs.declared.obeying.Obeyed.{Obeyed}
-
--- a table in which every phase is sound, and one that stops follows the last
-pub record Table (phases : ℕ) (look : ℕ → Phase) : Type 0 where
-  pub few : phases ≤ 99
-  pub every : (n : ℕ) → isSoundPhase phases (look n) ≡ true
-  pub past : look (phases + 1) .function ≡ f.Stp
 
 -- sound, with the current phase looked up
 abbrev pub Kept : ℕ → (ℕ → Phase) → Core → Type 0

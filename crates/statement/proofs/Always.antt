@@ -17,15 +17,15 @@ use Rattle.words.specs.Functions.{isPhase}
 use Rattle.words.specs.Phases.{isSoundPhase}
 use Rattle.words.specs.declared.commands.Command.{Command}
 use Rattle.words.specs.declared.phases.Phase.{Phase}
-use Rattle.engine.specs.Runs.{isOperating}
-use Rattle.engine.specs.Sound.{isSoundCore}
-use Rattle.engine.specs.Statuses.{inHand}
-use Rattle.engine.specs.declared.state.Core.{Core}
+use Rattle.program.specs.Runs.{isOperating}
+use Rattle.program.specs.Sound.{Table, isSoundCore}
+use Rattle.program.specs.Statuses.{inHand}
+use Rattle.program.specs.declared.state.Core.{Core}
+use Rattle.program.proofs.Parts.{CoreClauses, core-clauses, run-clauses}
 use Rattle.command.specs.declared.obeying.Edit.{Edit}
 use Rattle.command.specs.declared.obeying.Edit.the-variants.{Keep, Write, Renew}
 use Rattle.soundness.specs.Kept as kept
-use Rattle.soundness.specs.Kept.{Table, Kept, WellBy}
-use Rattle.engine.proofs.Parts.{CoreClauses, core-clauses, run-clauses}
+use Rattle.soundness.specs.Kept.{Kept, WellBy}
 use Rattle.soundness.proofs.Ticks.{kept-tick}
 use Rattle.soundness.proofs.Edges.{kept-pin-two, kept-pin-four, kept-pin-six, kept-clear-alarm}
 use Rattle.soundness.proofs.Commands.{kept-obey}
@@ -34,6 +34,8 @@ use Rattle.line.proofs.Theorems.{byte-sound, places-kept, empty-sound, asked-se
 use Rattle.pump.specs.Holder.{phaseCount, modelPhases, phaseAt, hereOf, withPhases, withPhase, edited, freshPump, freshPhases, isSoundPump}
 use Rattle.pump.specs.declared.calls.Listened.{Listened}
 use Rattle.pump.specs.declared.holder.Pump.{Pump}
+use Rattle.pump.proofs.Renewing.{fresh-count}
+use Rattle.pump.proofs.Kept.{pump-phases, pump-core, pump-line, table-here}
 use Rattle.statement.specs.Facts.{Sound, coreOf}
 use Rattle.statement.specs.Histories.{Call, byteIn, pinAt, tickIn, reportAfter, after, Model, Whole}
 use Rattle.statement.specs.Outcomes as out
@@ -43,8 +45,6 @@ use Rattle.statement.specs.Outcomes.{RefusedAs, not-sound, short-buffer,
 use Rattle.statement.specs.Outcomes.{Hears, collected, other-address, alarm-pending, reset, obeys}
 use Rattle.statement.proofs.Outcomes.{call-meets, does-number}
 use Rattle.statement.proofs.Placing.{placed-at, placed-sound}
-use Rattle.pump.proofs.Renewing.{fresh-count}
-use Rattle.pump.proofs.Kept.{pump-phases, pump-core, pump-line, table-here}
 use Rattle.statement.proofs.Soundness.{sound-facts}
 use Rattle.statement.proofs.Wholes.{fresh-phases, fresh-whole, core-whole, line-whole, phases-whole}
 

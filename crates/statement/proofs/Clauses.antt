@@ -21,25 +21,24 @@ use Rattle.words.specs.declared.functions.Function.{Function}
 use Rattle.words.specs.declared.functions.Function.the-variants as f
 use Rattle.words.specs.declared.phases.Phase.{Phase}
 use Rattle.dispense.specs.Rates.{isUsableRate, isNoRate}
-use Rattle.dispense.specs.Visits.{visitTests, isSoundVisit}
 use Rattle.dispense.specs.declared.rates.Rate.{Rate}
 use Rattle.dispense.specs.declared.rates.Rate.the-variants.{NoRate, Current}
 use Rattle.dispense.specs.declared.visits.Visit.{Visit}
+use Rattle.program.specs.Runs.{isEntering}
+use Rattle.program.specs.Sound.{visitTests, isSoundVisit, isSoundMode, idleTests, isNoTrap}
+use Rattle.program.specs.declared.state.Mode.{Mode}
+use Rattle.program.specs.declared.state.Mode.the-variants.{Stopped, Paused, Running}
+use Rattle.program.specs.declared.state.Pending.{Pending}
+use Rattle.program.specs.declared.state.Run.{Run}
+use Rattle.program.specs.declared.state.Trap.{Trap}
+use Rattle.program.specs.declared.state.Trap.the-variants.{NoTrap, Armed}
+use Rattle.program.specs.declared.state.Work.{Work}
+use Rattle.program.specs.declared.state.Work.the-variants.{Entering, Visiting, Pausing, Waiting}
+use Rattle.program.proofs.Parts.{phase-clauses, phase-sound}
 use Rattle.line.specs.Characters.{standing}
 use Rattle.line.specs.Lines.{text, allStanding, isSoundLine}
 use Rattle.line.specs.declared.lines.Line.{Line}
 use Rattle.line.proofs.Characters.{dropped-low, not-dropped, lower, below-lower, above-lower, stands, falls-dropped, falls-delete}
-use Rattle.engine.specs.Runs.{isEntering}
-use Rattle.engine.specs.Sound.{isSoundMode, idleTests, isNoTrap}
-use Rattle.engine.specs.declared.state.Mode.{Mode}
-use Rattle.engine.specs.declared.state.Mode.the-variants.{Stopped, Paused, Running}
-use Rattle.engine.specs.declared.state.Pending.{Pending}
-use Rattle.engine.specs.declared.state.Run.{Run}
-use Rattle.engine.specs.declared.state.Trap.{Trap}
-use Rattle.engine.specs.declared.state.Trap.the-variants.{NoTrap, Armed}
-use Rattle.engine.specs.declared.state.Work.{Work}
-use Rattle.engine.specs.declared.state.Work.the-variants.{Entering, Visiting, Pausing, Waiting}
-use Rattle.engine.proofs.Parts.{phase-clauses, phase-sound}
 use Rattle.pump.specs.Holder.{stopPhase, isSoundPhases}
 use Rattle.statement.specs.Facts.{Between, Datum, PhaseFacts, Usable, VisitFacts, Character, LineFacts, Nothing}
 

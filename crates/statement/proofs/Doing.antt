@@ -13,24 +13,24 @@ use borrow.Author.Tests.{le-leb, le-ltb}
 use Rattle.base.specs.If.{if_then_else_}
 use Rattle.words.specs.declared.answers.Said.{Said}
 use Rattle.words.specs.declared.answers.Said.the-variants as said
-use Rattle.answer.specs.Answers.{answerOf, lengthIn, bufferAfter}
-use Rattle.answer.proofs.Theorems.{length-kept}
+use Rattle.program.specs.declared.state.Core.{Core}
 use Rattle.line.specs.Lines.{afterByte}
 use Rattle.line.specs.declared.lines.Arrived.{Arrived}
-use Rattle.engine.specs.declared.state.Core.{Core}
+use Rattle.answer.specs.Answers.{answerOf, lengthIn, bufferAfter}
+use Rattle.answer.proofs.Theorems.{length-kept}
 use Rattle.pump.specs.Calls.{ticked, levelled, pinCall, arrivedReport, arrivedBuffer, heardReport, heardBuffer}
 use Rattle.pump.specs.Calls.{saidBy, held, afterLine, received, receivedBuffer, byteReport, byteBuffer}
 use Rattle.pump.specs.Device.{edgeOf, edge}
 use Rattle.pump.specs.Holder.{isSoundPump}
 use Rattle.pump.specs.Reports.{reported}
 use Rattle.pump.specs.declared.holder.Pump.{Pump}
+use Rattle.pump.proofs.Kept.{sound-tick}
 use Rattle.statement.specs.Facts.{coreOf}
 use Rattle.statement.specs.Histories.{Call, byteIn, pinAt, tickIn}
 use Rattle.statement.specs.Outcomes.{outcomeOf, Pin, Still, Written, Ticked, Level, low, high, Edge, two, four, six}
 use Rattle.statement.specs.Outcomes.{Levelled, Heard, Does, withCore, quiet}
 use Rattle.statement.proofs.Hearing.{heardBy, heard, hears}
 use Rattle.statement.proofs.Refusals.{Fine, pin-test}
-use Rattle.pump.proofs.Kept.{sound-tick}
 
 still : (q : Pump) (n : ℕ) (buffer : List ℕ) → Still q (record { report = reported q n; buffer = buffer })
 still q n buffer = record { taken = refl; new-state = refl; none-infused = refl; none-withdrawn = refl; no-beep = refl; level = refl }

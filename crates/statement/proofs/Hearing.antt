@@ -6,16 +6,16 @@ use mathlib.Core.Bool.{Bool, true, false}
 use lib.Dec.{eqb}
 use borrow.Author.Tests.{eqb-true, eqb-false, eq-eqb, ne-eqb}
 use Rattle.base.specs.If.{if_then_else_}
+use Rattle.program.specs.Runs.{pending}
+use Rattle.program.specs.Statuses.{inHand}
+use Rattle.program.specs.declared.state.Pending.{Pending}
+use Rattle.program.specs.declared.state.Pending.the-variants.{NoAlarm, Raised}
 use Rattle.line.specs.Characters.{isReturn, isDropped, arrivalOf, raised}
 use Rattle.line.specs.Lines.{emptyLine, afterArrival, afterByte, addressIn, commandIn}
 use Rattle.line.specs.declared.arriving.Arrival.{Arrival}
 use Rattle.line.specs.declared.arriving.Arrival.the-variants.{Dropped, Kept}
 use Rattle.line.specs.declared.lines.Arrived.{Arrived}
 use Rattle.line.specs.declared.lines.Line.{Line}
-use Rattle.engine.specs.Runs.{pending}
-use Rattle.engine.specs.Statuses.{inHand}
-use Rattle.engine.specs.declared.state.Pending.{Pending}
-use Rattle.engine.specs.declared.state.Pending.the-variants.{NoAlarm, Raised}
 use Rattle.pump.specs.Calls.{listenedTo, afterLine, held}
 use Rattle.pump.specs.Device as device
 use Rattle.pump.specs.Holder.{phaseCount, phaseAt}

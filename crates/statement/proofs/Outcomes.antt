@@ -13,8 +13,8 @@ use lib.Dec.{ltb, eqb}
 use lib.ListN.{length, getD}
 use lib.Seq.{ext-getD}
 use borrow.Author.Tests.{ltb-true, ltb-false}
+use Rattle.program.specs.declared.state.Core.{Core}
 use Rattle.answer.specs.Answers.{answerOf}
-use Rattle.engine.specs.declared.state.Core.{Core}
 use Rattle.pump.specs.Calls.{saidBy}
 use Rattle.pump.specs.Device.{edgeOf}
 use Rattle.pump.specs.Reports.{refusalNumber}

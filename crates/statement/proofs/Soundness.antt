@@ -15,13 +15,13 @@ use Rattle.words.specs.Functions.{isWait, pauseTicks}
 use Rattle.loops.proofs.Soundness.{count-le, loop-bounded, loops-differ, sound-of}
 use Rattle.dispense.specs.Ledgers.{mostTotal, isSoundLedger}
 use Rattle.dispense.specs.declared.ledgers.Ledger.{Ledger}
+use Rattle.program.specs.Sound.{isSoundTrap, isSoundMode, isSoundWork, isSoundCore}
+use Rattle.program.specs.declared.state.Trap.{Trap}
+use Rattle.program.specs.declared.state.Trap.the-variants.{NoTrap, Armed}
+use Rattle.program.specs.declared.state.Work.{Work}
+use Rattle.program.specs.declared.state.Work.the-variants.{Entering, Visiting, Pausing, Waiting}
+use Rattle.program.proofs.Parts.{RunClauses, run-clauses, run-sound, CoreClauses, core-clauses, core-sound}
 use Rattle.line.specs.Lines.{isSoundLine}
-use Rattle.engine.specs.Sound.{isSoundTrap, isSoundMode, isSoundWork, isSoundCore}
-use Rattle.engine.specs.declared.state.Trap.{Trap}
-use Rattle.engine.specs.declared.state.Trap.the-variants.{NoTrap, Armed}
-use Rattle.engine.specs.declared.state.Work.{Work}
-use Rattle.engine.specs.declared.state.Work.the-variants.{Entering, Visiting, Pausing, Waiting}
-use Rattle.engine.proofs.Parts.{RunClauses, run-clauses, run-sound, CoreClauses, core-clauses, core-sound}
 use Rattle.pump.specs.Device.{isSoundDevice}
 use Rattle.pump.specs.Holder.{phaseCount, hereOf, isSoundPhases, isSoundPump}
 use Rattle.pump.specs.declared.holder.Pump.{Pump}

@@ -9,9 +9,9 @@ use Rattle.base.proofs.Each.{and-both}
 use Rattle.decimal.specs.Writable.{writable}
 use Rattle.words.specs.Phases.{powerUp, isSoundPhase}
 use Rattle.words.specs.declared.phases.Phase.{Phase}
-use Rattle.engine.specs.declared.state.Core.{Core}
-use Rattle.engine.specs.Sound.{isSoundCore}
-use Rattle.soundness.specs.Kept.{Table, Kept}
+use Rattle.program.specs.declared.state.Core.{Core}
+use Rattle.program.specs.Sound.{Table, isSoundCore}
+use Rattle.soundness.specs.Kept.{Kept}
 use Rattle.soundness.proofs.Ticks.{kept-tick}
 use Rattle.soundness.proofs.Cores.{power-up-sound}
 use Rattle.line.specs.Lines.{isSoundLine}

@@ -10,19 +10,19 @@ use Rattle.words.specs.declared.answers.Alarm.{Alarm}
 use Rattle.words.specs.declared.answers.Reply.the-variants as reply
 use Rattle.words.specs.declared.commands.Command.{Command}
 use Rattle.words.specs.declared.commands.Command.the-variants as c
-use Rattle.answer.specs.Answers.{answerOf}
-use Rattle.line.specs.Lines.{emptyLine, afterByte, addressIn, commandIn}
-use Rattle.line.specs.declared.lines.Line.{Line}
-use Rattle.engine.specs.Cores.{withRun, resetCore}
-use Rattle.engine.specs.Edges.{pinTwo, pinFour, pinSix}
-use Rattle.engine.specs.Runs.{pending, clearAlarm}
-use Rattle.engine.specs.Statuses.{inHand}
-use Rattle.engine.specs.Ticks.{tickOf}
-use Rattle.engine.specs.declared.state.Core.{Core}
-use Rattle.engine.specs.declared.state.Pending.the-variants.{NoAlarm, Raised}
-use Rattle.engine.specs.declared.ticks.Moved.{Moved}
+use Rattle.program.specs.Cores.{withRun, resetCore}
+use Rattle.program.specs.Edges.{pinTwo, pinFour, pinSix}
+use Rattle.program.specs.Runs.{pending, clearAlarm}
+use Rattle.program.specs.Statuses.{inHand}
+use Rattle.program.specs.declared.state.Core.{Core}
+use Rattle.program.specs.declared.state.Pending.the-variants.{NoAlarm, Raised}
+use Rattle.tick.specs.Ticks.{tickOf}
+use Rattle.tick.specs.declared.Moved.{Moved}
 use Rattle.command.specs.Obeying.{obey}
 use Rattle.command.specs.declared.obeying.Obeyed.{Obeyed}
+use Rattle.line.specs.Lines.{emptyLine, afterByte, addressIn, commandIn}
+use Rattle.line.specs.declared.lines.Line.{Line}
+use Rattle.answer.specs.Answers.{answerOf}
 use Rattle.pump.specs.Calls.{saidBy}
 use Rattle.pump.specs.Device as device
 use Rattle.pump.specs.Holder.{phaseCount, phaseAt, hereOf, withDevice, withPhases, freshPhases, edited}

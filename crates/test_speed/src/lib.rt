@@ -3,11 +3,11 @@
 //
 // The table is chosen at run time: from one that the compiler knew, it would take the pump apart into its 41 phases and move them
 // one by one.
+use drive::Direction;
 use drive::RateUnit;
-use engine::Run;
+use program::Run;
 use pump::Device;
 use pump::Pump;
-use words::Direction;
 use words::Function;
 use words::Phase;
 

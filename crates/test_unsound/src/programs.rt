@@ -12,13 +12,13 @@ use crate::states::visiting;
 use crate::states::with_run;
 use dispense::Rate;
 use drive::RateUnit;
-use engine::Mode;
-use engine::Pending;
-use engine::Run;
-use engine::Trap;
-use engine::Work;
 use loops::Loop;
 use loops::Loops;
+use program::Mode;
+use program::Pending;
+use program::Run;
+use program::Trap;
+use program::Work;
 use words::Alarm;
 use words::Function;
 

@@ -11,11 +11,11 @@ use dispense::Ledger;
 use dispense::Pair;
 use dispense::Rate;
 use drive::RateUnit;
-use engine::Core;
-use engine::Run;
-use engine::Trap;
-use engine::Work;
 use line::Line;
+use program::Core;
+use program::Run;
+use program::Trap;
+use program::Work;
 use pump::Pump;
 use words::Function;
 

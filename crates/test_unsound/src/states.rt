@@ -1,18 +1,18 @@
 // The sound states that the cases start from, and one part of a state replaced.
 use dispense::Rate;
 use dispense::Visit;
+use drive::Direction;
 use drive::RateUnit;
-use engine::Core;
-use engine::Mode;
-use engine::Pending;
-use engine::Place;
-use engine::Run;
-use engine::Trap;
-use engine::Work;
 use loops::Loop;
 use loops::Loops;
+use program::Core;
+use program::Mode;
+use program::Pending;
+use program::Place;
+use program::Run;
+use program::Trap;
+use program::Work;
 use pump::Pump;
-use words::Direction;
 use words::Function;
 use words::Phase;
 

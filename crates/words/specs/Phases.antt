@@ -5,17 +5,11 @@ use lib.Dec.{eqb}
 use Rattle.base.specs.If.{if_then_else_}
 use Rattle.decimal.specs.Writable.{writable}
 use Rattle.drive.specs.declared.rates.RateUnit.the-variants.{Mh}
+use Rattle.drive.specs.declared.directions.Direction.the-variants.{Infuse}
 use Rattle.words.specs.Functions.{fits}
 use Rattle.words.specs.declared.functions.Function.{Function}
 use Rattle.words.specs.declared.functions.Function.the-variants as f
-use Rattle.words.specs.declared.phases.Direction.{Direction}
-use Rattle.words.specs.declared.phases.Direction.the-variants.{Infuse, Withdraw}
 use Rattle.words.specs.declared.phases.Phase.{Phase}
-
--- REV
-abbrev pub reverse : Direction → Direction
-reverse Infuse = Withdraw
-reverse Withdraw = Infuse
 
 -- rate 0 MH, volume 0, INF
 abbrev pub idle : Function → Phase

@@ -11,11 +11,11 @@ use Rattle.drive.specs.declared.rates.RateUnit.{RateUnit}
 use Rattle.drive.specs.declared.rates.RateUnit.the-variants.{Um, Mm, Uh, Mh}
 use Rattle.drive.specs.declared.syringe.VolumeUnit.{VolumeUnit}
 use Rattle.drive.specs.declared.syringe.VolumeUnit.the-variants.{Microlitre, Millilitre}
+use Rattle.drive.specs.declared.directions.Direction.{Direction}
+use Rattle.drive.specs.declared.directions.Direction.the-variants.{Infuse, Withdraw}
 use Rattle.words.specs.Functions.{number, datum, takesPhase, takesCount, isOut}
 use Rattle.words.specs.declared.functions.Function.{Function}
 use Rattle.words.specs.declared.functions.Function.the-variants as f
-use Rattle.words.specs.declared.phases.Direction.{Direction}
-use Rattle.words.specs.declared.phases.Direction.the-variants.{Infuse, Withdraw}
 
 -- the functions' names; both kinds of PAS have one name
 abbrev pub functionName : Function → List ℕ

@@ -1,6 +1,6 @@
 // What the pump answers, as values: a status, a reply, and the two together. Numbers are in thousandths.
 use crate::functions::Function;
-use crate::phases::Direction;
+use drive::Direction;
 use drive::RateUnit;
 use drive::VolumeUnit;
 

@@ -1,6 +1,6 @@
 // The commands as the pump is asked for them. Numbers are in thousandths; data may be out of range here.
 use crate::functions::Function;
-use crate::phases::Direction;
+use drive::Direction;
 use drive::RateUnit;
 
 // The units that a rate was sent with.

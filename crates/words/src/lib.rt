@@ -2,7 +2,7 @@
 // Words only: nothing here reads them off a line, prints them or obeys them.
 //
 //   functions   the fifteen functions, each with its number and its datum, and every question about one
-//   phases      the phase record: sound, at power-up; the direction of pumping
+//   phases      the phase record: sound, at power-up
 //   commands    the commands with their data
 //   answers     the statuses, the alarms, the replies, and what is said
 mod answers;
@@ -17,5 +17,4 @@ pub use answers::Status;
 pub use commands::Command;
 pub use commands::Units;
 pub use functions::Function;
-pub use phases::Direction;
 pub use phases::Phase;

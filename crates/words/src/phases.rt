@@ -1,24 +1,9 @@
 // The phase record: large fields first, so that it has no padding.
 ghost use mathlib.Core.Path.{_≡_};
-ghost use Rattle.words.specs.Phases.{reverse, idle, powerUp, isSoundPhase};
+ghost use Rattle.words.specs.Phases.{idle, powerUp, isSoundPhase};
 use crate::functions::Function;
+use drive::Direction;
 use drive::RateUnit;
-
-pub enum Direction {
-    Infuse,
-    Withdraw,
-}
-
-impl Direction {
-    pub fn reverse(self) -> Direction
-        ensures { λ r. ⌜ r ≡ reverse self ⌝ }
-    {
-        match self {
-            Direction::Infuse => Direction::Withdraw,
-            Direction::Withdraw => Direction::Infuse,
-        }
-    }
-}
 
 // Rate and volume in thousandths, the rate of its own unit, the volume of the unit that the diameter gives.
 pub struct Phase {

@@ -1,6 +1,6 @@
 -- `judge_tuning` meets its contract.
 -- Assumes nothing.
-use Rattle.engine.proofs.Choosing.{chosen}
+use Rattle.program.proofs.Choosing.{chosen}
 use Rattle.command.specs.Judging.{judgeTuning}
 use Rattle.command.proofs.Choosing.{told-four}
 use Rattle.command.proofs.Verdicts.{judging}

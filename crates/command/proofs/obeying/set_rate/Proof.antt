@@ -1,6 +1,6 @@
 -- `set_rate` meets its contract.
 -- Assumes nothing.
-use Rattle.engine.proofs.Choosing.{told, passed}
+use Rattle.program.proofs.Choosing.{told, passed}
 use Rattle.command.specs.Obeying.{setRate}
 use Rattle.command.proofs.Deciding.{setting}
 use Rattle.command.proofs.obeying.set_rate.Statement.{statement}

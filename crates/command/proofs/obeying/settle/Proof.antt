@@ -1,7 +1,7 @@
 -- `settle` meets its contract.
 -- Assumes nothing.
 use mathlib.Core.Path.{ap}
-use Rattle.engine.specs.Cores.{withRun}
+use Rattle.program.specs.Cores.{withRun}
 use Rattle.command.specs.Obeying.{settle}
 use Rattle.command.proofs.Deciding.{obeying, unpaused}
 use borrow.Author.Needs.{needs}

@@ -3,7 +3,7 @@
 use mathlib.Core.Path.{sym, _∙_}
 use lib.Dec.{lit<}
 use Rattle.base.specs.Text.{text, letter}
-use Rattle.words.specs.declared.phases.Direction.the-variants.{Infuse, Withdraw}
+use Rattle.drive.specs.declared.directions.Direction.the-variants.{Infuse, Withdraw}
 use Rattle.line.specs.Arguments.{headingOf, headedBy}
 use Rattle.line.specs.declared.arguments.Heading.the-variants as heading
 use Rattle.line.proofs.Letters.{by-first}

@@ -1,0 +1,39 @@
+-- `Run::stop_now` meets its contract.
+-- Assumes nothing.
+use Rattle.program.proofs.Choosing.{choices}
+use Rattle.program.proofs.Modes.{modes}
+use borrow.Author.Needs.{needs}
+use Rattle.program.proofs.state.Run.stop_now.Statement.{statement}
+use Rattle.program.proofs.state.Run.stop_now.Tie as tie
+
+returns : tie.Need-returns
+returns c = search (modes, choices)
+
+returns-2 : tie.Need-returns-2
+returns-2 c = search (modes, choices)
+
+returns-3 : tie.Need-returns-3
+returns-3 c = search (modes, choices)
+
+returns-4 : tie.Need-returns-4
+returns-4 c = search (modes, choices)
+
+pub stop-now-spec : {M : Type 1} → statement M
+stop-now-spec =
+    tie.close
+    (tie.spec
+    (λ c. search needs)
+    (λ c κs. tt)
+    (λ c. search needs)
+    (λ c κs. tt)
+    (λ c κs. tt)
+    (λ c. search needs)
+    (λ c κs. tt)
+    (λ c κs. tt)
+    (λ c κs. tt)
+    returns
+    (λ c κs. tt)
+    (λ c κs. tt)
+    returns-2
+    returns-3
+    returns-4)

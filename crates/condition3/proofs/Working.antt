@@ -10,10 +10,10 @@ use borrow.Author.Tests.{ltb-true, leb-true, ne-eqb}
 use Rattle.base.proofs.Choices.{and-left, and-right}
 use Rattle.drive.specs.Rates.{hourly}
 use Rattle.drive.specs.Syringe.{threshold, inFemtolitres, volumeUnit, thousandth}
-use Rattle.drive.proofs.Bounds.{step-volume-ge}
-use Rattle.drive.proofs.Theorems.{target-fits}
 use Rattle.drive.specs.declared.directions.Direction.{Direction}
 use Rattle.drive.specs.declared.directions.Direction.the-variants.{Infuse, Withdraw}
+use Rattle.drive.proofs.Bounds.{step-volume-ge}
+use Rattle.drive.proofs.Theorems.{target-fits}
 use Rattle.words.specs.declared.answers.Alarm.the-variants.{Program}
 use Rattle.dispense.specs.Ledgers.{mostTotal, totalOf}
 use Rattle.dispense.specs.Visits as visits

@@ -5,9 +5,8 @@ use mathlib.Core.Path.{_≡_, refl, sym, ap, _∙_, subst}
 use mathlib.Core.Bool.{Bool, true, false}
 use native.Mathlib.Omega.{arith}
 use Rattle.words.specs.declared.phases.Phase.{Phase}
-use Rattle.program.specs.Sound.{Ready}
 use Rattle.program.specs.declared.state.Core.{Core}
-use Rattle.tick.specs.Ticks.{tickOf}
+use Rattle.tick.specs.Ticks.{Ready, tickOf}
 use Rattle.tick.specs.declared.Moved.{Moved}
 use Rattle.soundness.proofs.Cores as cores
 use Rattle.soundness.proofs.Ticks.{kept-tick}

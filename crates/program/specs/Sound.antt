@@ -14,7 +14,7 @@ use Rattle.words.specs.Functions.{isPhase, isRatePhase, pauseTicks, isWait}
 use Rattle.words.specs.Phases.{isSoundPhase}
 use Rattle.words.specs.declared.functions.Function.the-variants as f
 use Rattle.words.specs.declared.phases.Phase.{Phase}
-use Rattle.loops.specs.Loops.{Turning, isSoundLoops}
+use Rattle.loops.specs.Loops.{isSoundLoops}
 use Rattle.dispense.specs.Ledgers.{isSoundLedger}
 use Rattle.dispense.specs.Rates.{thousandths, isNoRate, isUsableRate}
 use Rattle.dispense.specs.declared.rates.Rate.{Rate}
@@ -103,13 +103,3 @@ pub record Table (phases : ℕ) (look : ℕ → Phase) : Type 0 where
   pub few : phases ≤ 99
   pub every : (n : ℕ) → isSoundPhase phases (look n) ≡ true
   pub past : look (phases + 1) .function ≡ f.Stp
-
--- ---- what the code may rely on: a tick; entering a phase
-pub record Ready (phases : ℕ) (s : Core) (here : Phase) : Type 0 where
-  pub few : phases ≤ 99
-  pub core : isSoundCore phases s here ≡ true
-  pub phase : isSoundPhase phases here ≡ true
-
-pub record Enterable (r : Run) : Type 0 where
-  pub current : r .place .current ≤ 100
-  pub turning : Turning (r .loops) (r .place .current)

@@ -12,12 +12,11 @@ use borrow.Author.Tests.{lt-ltb, le-ltb, ne-eqb}
 use Rattle.base.specs.If.{if_then_else_}
 use Rattle.words.specs.declared.answers.Said.{Said}
 use Rattle.words.specs.declared.phases.Phase.{Phase}
-use Rattle.program.proofs.Parts.{core-clauses, run-clauses}
 use Rattle.program.specs.Runs.{isOperating}
-use Rattle.program.specs.Sound.{Ready}
 use Rattle.program.specs.Statuses.{inHand}
 use Rattle.program.specs.declared.state.Core.{Core}
-use Rattle.tick.specs.Ticks.{tickOf, silent}
+use Rattle.program.proofs.Parts.{core-clauses, run-clauses}
+use Rattle.tick.specs.Ticks.{Ready, tickOf, silent}
 use Rattle.tick.specs.declared.Moved.{Moved}
 use Rattle.line.specs.Lines.{afterByte}
 use Rattle.line.specs.declared.lines.Arrived.{Arrived}

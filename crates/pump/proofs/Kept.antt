@@ -11,7 +11,7 @@ use Rattle.base.proofs.Each.{and-both}
 use Rattle.decimal.specs.Writable.{writable}
 use Rattle.words.specs.Phases.{isSoundPhase}
 use Rattle.words.specs.declared.phases.Phase.{Phase}
-use Rattle.program.specs.Sound.{Table, Ready, isSoundCore}
+use Rattle.program.specs.Sound.{Table, isSoundCore}
 use Rattle.program.specs.declared.state.Core.{Core}
 use Rattle.line.specs.Lines.{isSoundLine}
 use Rattle.pump.specs.Calls.{tickCall, ticked}

@@ -12,7 +12,7 @@ use Rattle.dispense.specs.Ledgers.{isSoundLedger}
 use Rattle.dispense.specs.declared.ledgers.Ledger.{Ledger}
 use Rattle.program.specs.Cores.{withRun, withLedger, withOutput, withPins, powerUpCore, resetCore}
 use Rattle.program.specs.Runs.{freshAt}
-use Rattle.program.specs.Sound.{Table, Ready, isSoundWork, isSoundRun, isSoundCore}
+use Rattle.program.specs.Sound.{Table, isSoundWork, isSoundRun, isSoundCore}
 use Rattle.program.specs.declared.state.Core.{Core}
 use Rattle.program.specs.declared.state.Mode.the-variants.{Stopped}
 use Rattle.program.specs.declared.state.Pending.{Pending}
@@ -20,6 +20,7 @@ use Rattle.program.specs.declared.state.Pending.the-variants.{NoAlarm, Raised}
 use Rattle.program.specs.declared.state.Pins.{Pins}
 use Rattle.program.specs.declared.state.Run.{Run}
 use Rattle.program.proofs.Parts.{CoreClauses, core-clauses, core-sound, run-sound}
+use Rattle.tick.specs.Ticks.{Ready}
 use Rattle.soundness.specs.Kept.{Kept, KeptRun}
 use Rattle.soundness.proofs.Runs.{fresh-sound}
 

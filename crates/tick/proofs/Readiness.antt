@@ -1,4 +1,4 @@
--- What the callees of a tick ask, from a sound core and phase: see Ready in specs/Sound.antt.
+-- What the callees of a tick ask, from a sound core and phase: see Ready in specs/Ticks.antt.
 -- Assumes nothing.
 use Prim.Native.Nat.{ℕ, _≤_}
 use mathlib.Core.Path.{_≡_, sym, ap, _∙_}
@@ -11,10 +11,10 @@ use Rattle.base.proofs.Each.{Each, each, either}
 use Rattle.drive.specs.Rates.{hourly}
 use Rattle.drive.specs.Syringe.{diameter, leastDiameter, mostDiameter, threshold}
 use Rattle.drive.specs.declared.rates.RateUnit.{RateUnit}
-use Rattle.drive.proofs.Bounds.{threshold-le}
-use Rattle.drive.proofs.Theorems.{usable-iff}
 use Rattle.drive.specs.declared.directions.Direction.{Direction}
 use Rattle.drive.specs.declared.directions.Direction.the-variants.{Infuse, Withdraw}
+use Rattle.drive.proofs.Bounds.{threshold-le}
+use Rattle.drive.proofs.Theorems.{usable-iff}
 use Rattle.words.specs.declared.phases.Phase.{Phase}
 use Rattle.loops.proofs.Kept.{turning}
 use Rattle.dispense.specs.Ledgers.{mostTotal, totalOf, isSoundLedger}
@@ -23,10 +23,12 @@ use Rattle.dispense.specs.declared.ledgers.Ledger.{Ledger}
 use Rattle.dispense.specs.declared.rates.Rate.{Rate}
 use Rattle.dispense.specs.declared.rates.Rate.the-variants.{Current}
 use Rattle.dispense.specs.declared.visits.Visit.{Visit}
-use Rattle.program.specs.Sound.{Ready, Enterable, visitTests, isSoundVisit, isSoundWork}
+use Rattle.program.specs.Sound.{visitTests, isSoundVisit, isSoundWork}
 use Rattle.program.specs.declared.state.Core.{Core}
 use Rattle.program.specs.declared.state.Work.the-variants.{Visiting}
 use Rattle.program.proofs.Parts.{CoreClauses, core-clauses, RunClauses, run-clauses}
+use Rattle.tick.specs.Entering.{Enterable}
+use Rattle.tick.specs.Ticks.{Ready}
 use Rattle.tick.specs.Working.{AtRate}
 
 total-le : (l : Ledger) (way : Direction) → isSoundLedger l ≡ true → totalOf l way ≤ mostTotal

@@ -1,5 +1,5 @@
 -- Entering a phase, function by function: what it makes of the program under way.   (01, Ticks and phases)
-use Prim.Native.Nat.{ℕ}
+use Prim.Native.Nat.{ℕ, _≤_}
 use mathlib.Core.Bool.{Bool, _&&_}
 use lib.Dec.{ltb, eqb}
 use Rattle.base.specs.If.{if_then_else_}
@@ -10,6 +10,7 @@ use Rattle.words.specs.declared.functions.Function.{Function}
 use Rattle.words.specs.declared.functions.Function.the-variants as f
 use Rattle.words.specs.declared.phases.Phase.{Phase}
 use Rattle.loops.specs.Loops as loops
+use Rattle.loops.specs.Loops.{Turning}
 use Rattle.loops.specs.declared.Began.{Began}
 use Rattle.loops.specs.declared.Turn.{Turn}
 use Rattle.dispense.specs.Rates.{increase, decrease, isUsableRate}
@@ -86,3 +87,8 @@ enterBy r pins d p (f.Out level) = goOn r
 
 unfoldable pub enter : Run → Pins → ℕ → Phase → Run
 enter r pins d p = enterBy r pins d p (p .function)
+
+-- ---- what the code of entering may rely on
+pub record Enterable (r : Run) : Type 0 where
+  pub current : r .place .current ≤ 100
+  pub turning : Turning (r .loops) (r .place .current)

@@ -1,14 +1,17 @@
 -- One tick: it enters the current phase or works the entered one, and only I, W and T move.   (01, Ticks and phases)
-use mathlib.Core.Bool.{Bool, false}
-use Prim.Native.Nat.{ℕ}
+use Prim.Native.Nat.{ℕ, _≤_}
+use mathlib.Core.Path.{_≡_}
+use mathlib.Core.Bool.{Bool, true, false}
 use lib.Dec.{ltb}
 use Rattle.base.specs.If.{if_then_else_}
 use Rattle.drive.specs.declared.directions.Direction.{Direction}
 use Rattle.drive.specs.declared.directions.Direction.the-variants.{Infuse, Withdraw}
 use Rattle.words.specs.Functions.{isBeep, isOut, datum}
+use Rattle.words.specs.Phases.{isSoundPhase}
 use Rattle.words.specs.declared.functions.Function.{Function}
 use Rattle.words.specs.declared.phases.Phase.{Phase}
 use Rattle.program.specs.Cores.{withRun, withLedger, withOutput}
+use Rattle.program.specs.Sound.{isSoundCore}
 use Rattle.program.specs.declared.state.Core.{Core}
 use Rattle.program.specs.declared.state.Mode.{Mode}
 use Rattle.program.specs.declared.state.Mode.the-variants.{Stopped, Paused, Running}
@@ -59,3 +62,9 @@ tickBy s p Running = workBy s p (s .run .place .work)
 
 unfoldable pub tickOf : Core → Phase → Moved
 tickOf s p = tickBy s p (s .run .mode)
+
+-- ---- what the code of a tick may rely on
+pub record Ready (phases : ℕ) (s : Core) (here : Phase) : Type 0 where
+  pub few : phases ≤ 99
+  pub core : isSoundCore phases s here ≡ true
+  pub phase : isSoundPhase phases here ≡ true

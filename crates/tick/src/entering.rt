@@ -3,8 +3,7 @@
 ghost use mathlib.Core.Path.{_≡_};
 ghost use Prim.Native.Nat.{_≤_};
 ghost use Rattle.tick.specs.Entering.{beginVisit, enterRate, enterPause, startLoop, passLoop, endLoop, jumpIf, armTrap, clearTrap};
-ghost use Rattle.tick.specs.Entering.{enter};
-ghost use Rattle.program.specs.Sound.{Enterable};
+ghost use Rattle.tick.specs.Entering.{Enterable, enter};
 ghost use Rattle.loops.specs.Loops.{Turning};
 use dispense::Rate;
 use dispense::Visit;

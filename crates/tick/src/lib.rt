@@ -8,8 +8,8 @@ mod entering;
 mod working;
 
 ghost use mathlib.Core.Path.{_≡_};
-ghost use Rattle.program.specs.Sound.{Ready, Enterable};
-ghost use Rattle.tick.specs.Ticks.{outputAfter, entered, worked, silent, tickOf};
+ghost use Rattle.tick.specs.Entering.{Enterable};
+ghost use Rattle.tick.specs.Ticks.{Ready, outputAfter, entered, worked, silent, tickOf};
 use drive::Direction;
 use entering::enter;
 use program::Core;

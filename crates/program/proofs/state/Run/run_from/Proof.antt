@@ -1,8 +1,8 @@
 -- `Run::run_from` meets its contract.
 -- Assumes nothing.
+use Rattle.program.specs.Control.{runFrom}
 use Rattle.program.proofs.Choosing.{choices}
 use Rattle.program.proofs.Modes.{accept-after}
-use Rattle.program.specs.Control.{runFrom}
 use Rattle.program.proofs.state.Run.run_from.Statement.{statement}
 use Rattle.program.proofs.state.Run.run_from.Tie as tie
 

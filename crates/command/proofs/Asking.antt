@@ -40,7 +40,7 @@ module _ (a b : ℕ) (e : (ltb a 10_000_000 && ltb b 10_000_000) ≡ true) where
 
 module _
     (l : Ledger) (s : Syringe) (v : VolumeUnit) (t u : ℕ)
-    (e : v ≡ volumeUnit (s .diameter)) (p : t ≡ thousandth v) (q : u ≡ thousandth v)
+    (e : v ≡ volumeUnit s) (p : t ≡ thousandth v) (q : u ≡ thousandth v)
   where
     pub shows-totals :
         (ltb (l .totals .infused / t) 10_000_000 && ltb (l .totals .withdrawn / u) 10_000_000) ≡ true

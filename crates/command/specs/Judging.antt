@@ -7,6 +7,7 @@ use Rattle.base.specs.If.{if_then_else_}
 use Rattle.drive.specs.Rates.{usable}
 use Rattle.drive.specs.Syringe.{diameter}
 use Rattle.drive.specs.declared.rates.RateUnit.{RateUnit}
+use Rattle.drive.specs.declared.syringe.Syringe.{Syringe}
 use Rattle.words.specs.Functions.{fits, isPhase, isFlow, isRamp, isRatePhase}
 use Rattle.words.specs.declared.commands.Units.{Units}
 use Rattle.words.specs.declared.commands.Units.the-variants.{Own, Given}
@@ -42,23 +43,23 @@ unitOr (Given given) unit = given
 
 -- not operating: RAT, INC and DEC only; for RAT the rate must be usable, which zero is not; for INC and DEC units do not apply, and any
 -- number but zero is in range
-unfoldable pub judgeStored : ℕ → Phase → ℕ → Units → Verdict
-judgeStored d p x units =
+unfoldable pub judgeStored : Syringe → Phase → ℕ → Units → Verdict
+judgeStored y p x units =
     if isFlow (p .function)
-    then ifInRange (usable d x (unitOr units (p .unit)))
+    then ifInRange (usable y x (unitOr units (p .unit)))
     else if isRamp (p .function) && isOwn units
     then ifInRange (ltb 0 x)
     else NotApplicable
 
 -- while operating: only an entered RAT phase under way, the next phase number not INC or DEC, no units; in the units of the current rate
-abbrev pub judgeRate : ℕ → ℕ → Rate → Verdict
-judgeRate d x NoRate = NotApplicable
-judgeRate d x (Current unit r) = ifInRange (usable d x unit)
+abbrev pub judgeRate : Syringe → ℕ → Rate → Verdict
+judgeRate y x NoRate = NotApplicable
+judgeRate y x (Current unit r) = ifInRange (usable y x unit)
 
-unfoldable pub judgeTuning : Run → ℕ → Phase → Function → ℕ → Units → Verdict
-judgeTuning r d p next x units =
+unfoldable pub judgeTuning : Run → Syringe → Phase → Function → ℕ → Units → Verdict
+judgeTuning r y p next x units =
     if isFlow (p .function) && isVisiting (r .place .work) && not (isRamp next) && isOwn units
-    then judgeRate d x (r .rate)
+    then judgeRate y x (r .rate)
     else NotApplicable
 
 -- ---- VOL: rate phases only, not while operating; every number is in range

@@ -83,9 +83,9 @@ tune r x = tuneBy r x (r .rate)
 unfoldable pub setRate : Core → Phase → Function → ℕ → Units → Obeyed
 setRate s p next x units =
     if isOperating (s .run)
-    then decide s (withRun s (tune (s .run) x)) Keep (judging.judgeTuning (s .run) (s .syringe .diameter) p next x units)
+    then decide s (withRun s (tune (s .run) x)) Keep (judging.judgeTuning (s .run) (s .syringe) p next x units)
     else
-    setPhaseTo s (withStored p x (judging.unitOr units (p .unit))) (judging.judgeStored (s .syringe .diameter) p x units)
+    setPhaseTo s (withStored p x (judging.unitOr units (p .unit))) (judging.judgeStored (s .syringe) p x units)
 
 -- ---- PHN keeps a pause
 unfoldable pub choose : Core → ℕ → ℕ → Obeyed

@@ -33,7 +33,7 @@ askRate r p = if isOperating r then currentRate (r .rate) else storedRate p
 
 -- ---- VOL: in rate phases only; the query adds the unit
 unfoldable pub askVolume : Syringe → Phase → Reply
-askVolume x p = if isRatePhase (p .function) then reply.Volume (p .volume) (volumeUnit (x .diameter)) else reply.NotApplicable
+askVolume x p = if isRatePhase (p .function) then reply.Volume (p .volume) (volumeUnit x) else reply.NotApplicable
 
 -- ---- PHN: the chosen phase, while operating the running one; past the last phase it does not apply
 unfoldable pub askPhase : Run → ℕ → ℕ → Reply
@@ -44,10 +44,10 @@ askPhase r chosen phases =
 
 -- ---- DIS: both totals in thousandths of the unit, cut off; out of range if either is 10,000 units or more
 abbrev pub inUnits : Syringe → ℕ → ℕ
-inUnits x fl = fl / thousandth (volumeUnit (x .diameter))
+inUnits x fl = fl / thousandth (volumeUnit x)
 
 unfoldable pub askTotals : Ledger → Syringe → Reply
 askTotals l x =
     if ltb (inUnits x (l .totals .infused)) 10_000_000 && ltb (inUnits x (l .totals .withdrawn)) 10_000_000
-    then reply.Totals (inUnits x (l .totals .infused)) (inUnits x (l .totals .withdrawn)) (volumeUnit (x .diameter))
+    then reply.Totals (inUnits x (l .totals .infused)) (inUnits x (l .totals .withdrawn)) (volumeUnit x)
     else reply.OutOfRange

@@ -4,6 +4,7 @@ ghost use Rattle.command.specs.Judging.{judgeIdle, judgeDiameter, judgeS
 ghost use Rattle.command.specs.Judging.{judgeDirection, judgePhase, judgeFunction, isOwn, unitOr, ifInRange};
 use dispense::Rate;
 use drive::RateUnit;
+use drive::Syringe;
 use program::Run;
 use words::Function;
 use words::Phase;
@@ -37,13 +38,13 @@ pub fn judge_diameter(operating: bool, x: u32) -> Verdict
 
 // RAT when not operating. A RAT phase's rate must be usable at the present diameter; INC and DEC take any number above 0, in whatever
 // units the current rate will have.
-pub fn judge_stored(d: u16, hand: Phase, x: u32, units: Units) -> Verdict
-    ensures { λ r. ⌜ r ≡ judgeStored d hand x units ⌝ }
+pub fn judge_stored(syringe: Syringe, hand: Phase, x: u32, units: Units) -> Verdict
+    ensures { λ r. ⌜ r ≡ judgeStored syringe hand x units ⌝ }
 {
     let function = hand.function;
     if function.is_flow() {
         let unit = hand.unit;
-        return if_in_range(drive::is_usable(d, x, unit_or(units, unit)));
+        return if_in_range(syringe.is_usable(x, unit_or(units, unit)));
     }
     if function.is_ramp() & is_own(units) {
         return if_in_range(0 < x);
@@ -52,26 +53,33 @@ pub fn judge_stored(d: u16, hand: Phase, x: u32, units: Units) -> Verdict
 }
 
 // RAT while operating: only an entered RAT phase under way, with no ramp behind it, takes another rate while it runs, in the same units.
-pub fn judge_tuning(run: Run, d: u16, hand: Phase, next: Function, x: u32, units: Units) -> Verdict
-    ensures { λ r. ⌜ r ≡ judgeTuning run d hand next x units ⌝ }
+pub fn judge_tuning(
+    run: Run,
+    syringe: Syringe,
+    hand: Phase,
+    next: Function,
+    x: u32,
+    units: Units,
+) -> Verdict
+    ensures { λ r. ⌜ r ≡ judgeTuning run syringe hand next x units ⌝ }
 {
     let function = hand.function;
     let place = run.place;
     let work = place.work;
     if function.is_flow() & work.is_visiting() & !next.is_ramp() & is_own(units) {
         let rate = run.rate;
-        return judge_rate(d, x, rate);
+        return judge_rate(syringe, x, rate);
     }
     Verdict::NotApplicable
 }
 
 // A current rate has its units already, and the new one must be usable in them.
-fn judge_rate(d: u16, x: u32, rate: Rate) -> Verdict
-    ensures { λ r. ⌜ r ≡ judgeRate d x rate ⌝ }
+fn judge_rate(syringe: Syringe, x: u32, rate: Rate) -> Verdict
+    ensures { λ r. ⌜ r ≡ judgeRate syringe x rate ⌝ }
 {
     match rate {
         Rate::NoRate => Verdict::NotApplicable,
-        Rate::Current(unit, _) => if_in_range(drive::is_usable(d, x, unit)),
+        Rate::Current(unit, _) => if_in_range(syringe.is_usable(x, unit)),
     }
 }
 

@@ -182,10 +182,10 @@ fn set_rate(core: Core, hand: Phase, next: Function, x: u32, units: Units) -> Ob
     ensures { λ r. ⌜ r ≡ setRate core hand next x units ⌝ }
 {
     if core.run.is_operating() {
-        let verdict = judge_tuning(core.run, core.syringe.diameter, hand, next, x, units);
+        let verdict = judge_tuning(core.run, core.syringe, hand, next, x, units);
         return decide(core, core.with_run(tune(core.run, x)), Edit::Keep, verdict);
     }
-    let verdict = judge_stored(core.syringe.diameter, hand, x, units);
+    let verdict = judge_stored(core.syringe, hand, x, units);
     let unit = hand.unit;
     set_phase_to(core, with_stored(hand, x, unit_or(units, unit)), verdict)
 }

@@ -48,7 +48,7 @@ pub fn ask_volume(syringe: Syringe, hand: Phase) -> Reply
 {
     let function = hand.function;
     if function.is_rate_phase() {
-        return Reply::Volume(hand.volume, drive::volume_unit(syringe.diameter));
+        return Reply::Volume(hand.volume, syringe.volume_unit());
     }
     Reply::NotApplicable
 }
@@ -71,7 +71,7 @@ pub fn ask_phase(run: Run, chosen: u8, phases: u8) -> Reply
 pub fn ask_totals(ledger: Ledger, syringe: Syringe) -> Reply
     ensures { λ r. ⌜ r ≡ askTotals ledger syringe ⌝ }
 {
-    let unit = drive::volume_unit(syringe.diameter);
+    let unit = syringe.volume_unit();
     let infused = ledger.totals.infused / unit.thousandth();
     let withdrawn = ledger.totals.withdrawn / unit.thousandth();
     if (infused < 10_000_000) & (withdrawn < 10_000_000) {

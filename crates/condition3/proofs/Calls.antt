@@ -69,7 +69,7 @@ stays p q (keeps e) s h v k = (
   ap (λ (x : Place). x .work) (sym e) ∙ k,
   record {
     volume = h (runOf q .place .current) ∙ ap (λ (x : Place). phaseAt (p .phases) (x .current) .volume) e;
-    diameter = ap (λ x. x .diameter) s;
+    syringe = s;
   },
 )
 stays p q (drops e) s h v k = stays-none p q e v k
@@ -274,7 +274,7 @@ unfolding clears
 ticked-books d p o t =
     ap (total d) (t .new-state)
     ∙ tick-gives d (coreOf p) (hereOf p) .1
-    ∙ ap (λ n. total d p + n * stepVolume (coreOf p .syringe .diameter)) same
+    ∙ ap (λ n. total d p + n * stepVolume (coreOf p .syringe)) same
   where
     same : told d (tickAt p) ≡ ofWay d (o .report .infused) (o .report .withdrawn)
     same = ap (λ n. ofWay d n (tickAt p .withdrawn)) (sym (t .infused)) ∙ ap (ofWay d (o .report .infused)) (sym (t .withdrawn))

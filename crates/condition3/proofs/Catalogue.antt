@@ -17,15 +17,15 @@ use Rattle.condition3.specs.Condition.{InVisit}
 
 -- the volume of the phase in place, in femtolitres, and how many steps of it fit
 abbrev pub sizeOf : Pump → ℕ
-sizeOf p = inFemtolitres (coreOf p .syringe .diameter) (hereOf p .volume)
+sizeOf p = inFemtolitres (coreOf p .syringe) (hereOf p .volume)
 
 abbrev pub aimOf : Pump → ℕ
-aimOf p = target (coreOf p .syringe .diameter) (hereOf p .volume)
+aimOf p = target (coreOf p .syringe) (hereOf p .volume)
 
 -- the volume of the phase in place, and the diameter, are what they were
 pub record Alike (p q : Pump) : Type 0 where
   pub volume : hereOf q .volume ≡ hereOf p .volume
-  pub diameter : coreOf q .syringe .diameter ≡ coreOf p .syringe .diameter
+  pub syringe : coreOf q .syringe ≡ coreOf p .syringe
 
 -- a visit that is under way behind was under way before, in a phase of the same volume, at the same diameter
 abbrev pub Stays : Pump → Pump → Type 0

@@ -69,4 +69,4 @@ pub books-same :
     → Books d e
 books-same d e h a b k =
     books-by d e false h
-    (k ∙ no-more (total d (e .before)) (stepsTold d e) (stepVolume (coreOf (e .before) .syringe .diameter)) (none-told d _ _ a b))
+    (k ∙ no-more (total d (e .before)) (stepsTold d e) (stepVolume (coreOf (e .before) .syringe)) (none-told d _ _ a b))

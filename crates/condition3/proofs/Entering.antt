@@ -12,6 +12,7 @@ use borrow.Author.Tests.{ltb-true, eqb-true}
 use Rattle.base.proofs.Choices.{and-left, and-right, and-false}
 use Rattle.drive.specs.Syringe.{inFemtolitres, volumeUnit}
 use Rattle.drive.proofs.Bounds.{thousandth-ge}
+use Rattle.drive.specs.declared.syringe.Syringe.{Syringe}
 use Rattle.words.specs.Functions.{isBeep, isRatePhase, pauseTicks}
 use Rattle.words.specs.declared.functions.Function.{Function}
 use Rattle.words.specs.declared.functions.Function.the-variants as f
@@ -88,7 +89,7 @@ module _ (p : Pump) (t : Moved) where
   idles h b k n = rests b (simp (h, b, and-false)) n (stays-none p _ k)
 
 -- ---- what entering a phase makes of the program: a rate phase goes by the rate that it gives, and any other leaves no visit under way
-module _ (r : Run) (pins : Pins) (d : ℕ) (p : Phase) where
+module _ (r : Run) (pins : Pins) (d : Syringe) (p : Phase) where
   data Enters (g : Function) (t : Run) : Type 0 where
     pumping : isRatePhase g ≡ true → (rate : Rate) → t ≡ enterRate r d p rate → Enters g t
     other : isRatePhase g ≡ false → isVisiting (t .place .work) ≡ false → Enters g t
@@ -121,7 +122,7 @@ module _ (r : Run) (pins : Pins) (d : ℕ) (p : Phase) where
 -- ---- a running program at a phase that is not entered
 size-above : (p : Pump) → 0 < hereOf p .volume → 0 < sizeOf p
 unfolding inFemtolitres
-size-above p h = omega (arith, mul-le-mul h (thousandth-ge (volumeUnit (coreOf p .syringe .diameter))))
+size-above p h = omega (arith, mul-le-mul h (thousandth-ge (volumeUnit (coreOf p .syringe))))
 
 module _ (p : Pump) (running : runOf p .mode ≡ Running) (fresh : underWay p ≡ Entering) (output beep : Bool) where
   abbrev entry : Run → Moved
@@ -138,7 +139,7 @@ module _ (p : Pump) (running : runOf p .mode ≡ Running) (fresh : underWay p �
     begins-here : (t : Run) → t .mode ≡ runOf p .mode → begins (moved p (entry t)) ≡ true
     begins-here t e = begins-by p (entry t) Running Entering true running fresh pumps ∙ ap isRunning (e ∙ running)
 
-    told-begun : (rate : Rate) → Tells (beginVisit (withRate (runOf p) rate) (coreOf p .syringe .diameter) (hereOf p))
+    told-begun : (rate : Rate) → Tells (beginVisit (withRate (runOf p) rate) (coreOf p .syringe) (hereOf p))
     unfolding beginVisit stepsOf
     told-begun rate = by-test Tells (some && none) passed opened
       where
@@ -171,15 +172,15 @@ module _ (p : Pump) (running : runOf p .mode ≡ Running) (fresh : underWay p �
             (ends-by p (entry (doing r (Visiting u))) Running (Visiting u) _ running refl refl)
             refl
             (λ v k. sym (ap (λ (x : Visit). x .given) (visit-is (Visiting u) u v refl k)))
-            (record { volume = refl; diameter = refl })
+            (record { volume = refl; syringe = refl })
 
-    told-rate : (rate : Rate) → Tells (enterRate (runOf p) (coreOf p .syringe .diameter) (hereOf p) rate)
+    told-rate : (rate : Rate) → Tells (enterRate (runOf p) (coreOf p .syringe) (hereOf p) rate)
     unfolding enterRate
     told-rate rate =
-        by-test Tells (isUsableRate (coreOf p .syringe .diameter) rate) (λ _. told-begun rate)
+        by-test Tells (isUsableRate (coreOf p .syringe) rate) (λ _. told-begun rate)
         (λ _. idles-here _ (begins-by p (entry _) Running Entering true running fresh pumps) refl)
 
-  told-by : (t : Run) → Enters (runOf p) (coreOf p .pins) (coreOf p .syringe .diameter) (hereOf p) (hereOf p .function) t → Tells t
+  told-by : (t : Run) → Enters (runOf p) (coreOf p .pins) (coreOf p .syringe) (hereOf p) (hereOf p .function) t → Tells t
   told-by t (pumping h rate e) = subst Tells (sym e) (told-rate h rate)
   told-by t (other h k) = idles-here t (begins-by p (entry t) Running Entering false running fresh h) k
 
@@ -187,4 +188,4 @@ pub told-entered : (p : Pump) → runOf p .mode ≡ Running → underWay p ≡ E
 unfolding entered enter
 told-entered p running fresh =
     told-by p running fresh _ (isBeep (hereOf p .function)) _
-    (enters (runOf p) (coreOf p .pins) (coreOf p .syringe .diameter) (hereOf p) (hereOf p .function))
+    (enters (runOf p) (coreOf p .pins) (coreOf p .syringe) (hereOf p) (hereOf p .function))

@@ -14,6 +14,7 @@ use Rattle.drive.specs.Syringe.{stepVolume, threshold}
 use Rattle.drive.specs.declared.directions.Direction.{Direction}
 use Rattle.drive.specs.declared.directions.Direction.the-variants.{Infuse, Withdraw}
 use Rattle.drive.proofs.Theorems.{usable-iff, due-four}
+use Rattle.drive.specs.declared.syringe.Syringe.{Syringe}
 use Rattle.words.specs.declared.phases.Phase.{Phase}
 use Rattle.dispense.specs.Ledgers.{mostTotal, totalOf, book}
 use Rattle.dispense.specs.Visits.{dueOf, stepsOf}
@@ -49,7 +50,7 @@ told d m = ofWay d (m .infused) (m .withdrawn)
 abbrev Gives : Direction → Core → Direction → Moved → ℕ → Type 0
 Gives d s way m n =
     (told d m ≡ (if sameWay d way then n else 0))
-    × (totalOf (m .core .ledger) d ≡ totalOf (s .ledger) d + told d m * stepVolume (s .syringe .diameter))
+    × (totalOf (m .core .ledger) d ≡ totalOf (s .ledger) d + told d m * stepVolume (s .syringe))
 
 pub no-more : (x n v : ℕ) → n ≡ 0 → x ≡ x + n * v
 no-more x n v e = rw e (omega arith)
@@ -68,7 +69,7 @@ module _ (s : Core) where
   gives-none d way m e i j =
       let none = none-told d (m .infused) (m .withdrawn) i j in (
         none ∙ none-either (sameWay d way),
-        ap (λ (l : Ledger). totalOf l d) e ∙ no-more (totalOf (s .ledger) d) (told d m) (stepVolume (s .syringe .diameter)) none,
+        ap (λ (l : Ledger). totalOf l d) e ∙ no-more (totalOf (s .ledger) d) (told d m) (stepVolume (s .syringe)) none,
       )
 
   works-none : (d way : Direction) (r : Run) → Gives d s way (worked s way (record { run = r; ledger = s .ledger; steps = 0 })) 0
@@ -78,7 +79,7 @@ module _ (s : Core) where
   -- ---- n steps, unless the total would pass its limit
   module _ (a b : Run) (n : ℕ) where
     abbrev v : ℕ
-    v = stepVolume (s .syringe .diameter)
+    v = stepVolume (s .syringe)
 
     abbrev given : Direction → Bool → Given
     given way t =
@@ -107,8 +108,8 @@ module _ (d : Direction) (s : Core) (p : Phase) where
   abbrev way : Direction
   way = p .direction
 
-  abbrev size : ℕ
-  size = s .syringe .diameter
+  abbrev size : Syringe
+  size = s .syringe
 
   visit-gives :
       (v : Visit) (rate : Rate)
@@ -148,8 +149,8 @@ module _ (p : Pump) (w : Whole p) where
   sound : Sound p
   sound = sound-facts p (w .sound)
 
-  abbrev bore : ℕ
-  bore = coreOf p .syringe .diameter
+  abbrev bore : Syringe
+  bore = coreOf p .syringe
 
   rate-few : (x : ℕ) (v : Visit) → underWay p ≡ Visiting v → (rate : Rate) → Usable bore rate → ruledRate x bore v rate ≤ 4
   rate-few x v k NoRate u = absurd u

@@ -29,7 +29,7 @@ use Rattle.condition3.proofs.Catalogue.{sizeOf, aimOf, Alike, Told, res
 -- the visit that is under way, as it was written down
 record Open (p : Pump) (v : Visit) (w : Dose) : Type 0 where
   its-volume : w .volume ≡ sizeOf p
-  its-v : w .v ≡ stepVolume (coreOf p .syringe .diameter)
+  its-v : w .v ≡ stepVolume (coreOf p .syringe)
   its-steps : 0 < sizeOf p → w .steps ≡ v .given
   not-ended : w .ended ≡ false
 
@@ -78,18 +78,18 @@ counted-none (w ∷ ws) = ap₂ with-steps (add-zero (w .steps)) (or-false (w .e
 
 -- ---- sizes
 size-alike : (p q : Pump) → Alike p q → sizeOf q ≡ sizeOf p
-size-alike p q a = ap₂ inFemtolitres (a .diameter) (a .volume)
+size-alike p q a = ap₂ inFemtolitres (a .syringe) (a .volume)
 
-step-alike : (p q : Pump) → Alike p q → stepVolume (coreOf q .syringe .diameter) ≡ stepVolume (coreOf p .syringe .diameter)
-step-alike p q a = ap stepVolume (a .diameter)
+step-alike : (p q : Pump) → Alike p q → stepVolume (coreOf q .syringe) ≡ stepVolume (coreOf p .syringe)
+step-alike p q a = ap stepVolume (a .syringe)
 
 record Room (p : Pump) : Type 0 where
-  within : aimOf p * stepVolume (coreOf p .syringe .diameter) ≤ sizeOf p
-  most : sizeOf p < aimOf p * stepVolume (coreOf p .syringe .diameter) + stepVolume (coreOf p .syringe .diameter)
+  within : aimOf p * stepVolume (coreOf p .syringe) ≤ sizeOf p
+  most : sizeOf p < aimOf p * stepVolume (coreOf p .syringe) + stepVolume (coreOf p .syringe)
 
 room : (p : Pump) → Whole p → Room p
 room p w =
-    let t = target-fits (coreOf p .syringe .diameter) (hereOf p .volume) (sound-facts p (w .sound) .ranges .diameter .0) in
+    let t = target-fits (coreOf p .syringe) (hereOf p .volume) (sound-facts p (w .sound) .ranges .diameter .0) in
     record { within = t .within; most = t .most }
 
 fewer : (m n k size : ℕ) → m ≤ n → n * k ≤ size → m * k ≤ size
@@ -186,7 +186,7 @@ keeps e ws a w (opens b x n g s) =
     })
 keeps e ws a w (passes b x n h z q) =
     let r = room (e .before) (a .whole) in
-    let none = ap (λ (k : ℕ). k * stepVolume (coreOf (e .before) .syringe .diameter)) z in
+    let none = ap (λ (k : ℕ). k * stepVolume (coreOf (e .before) .syringe)) z in
     subst (Agree (behindIt e)) (sym (seen-is ws e 0 true true n x b))
     (record {
       whole = w;

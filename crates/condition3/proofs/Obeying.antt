@@ -127,9 +127,9 @@ module _ (s : Core) (p : Phase) where
   unfolding setRate
   rate-deed next x units =
       by-test (Deed (c.SetRate x units)) (isOperating (s .run))
-      (λ _. decides (omega arith) (withRun s (tune (s .run) x)) Keep (judgeTuning (s .run) (s .syringe .diameter) p next x units) refl
+      (λ _. decides (omega arith) (withRun s (tune (s .run) x)) Keep (judgeTuning (s .run) (s .syringe) p next x units) refl
       (λ _ _. goes-on (turns-tune (s .run) x) refl tt))
-      (λ _. sets (omega arith) (withStored p x (unitOr units (p .unit))) (judgeStored (s .syringe .diameter) p x units) refl)
+      (λ _. sets (omega arith) (withStored p x (unitOr units (p .unit))) (judgeStored (s .syringe) p x units) refl)
 
   -- ---- CLD
   cleared :

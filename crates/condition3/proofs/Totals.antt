@@ -95,7 +95,7 @@ keeps-ruled d p x c a =
       whole = call-whole p c (a .whole);
       added =
           call-books d p c
-          ∙ ap (λ n. if clears d (eventOf p c) then 0 else total d p + n * stepVolume (coreOf p .syringe .diameter))
+          ∙ ap (λ n. if clears d (eventOf p c) then 0 else total d p + n * stepVolume (coreOf p .syringe))
           (call-ruled d p c (a .whole .sound))
           ∙ ap (λ y. addedUp d y (eventOf p c)) (a .added);
     }

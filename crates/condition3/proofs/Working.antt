@@ -62,20 +62,20 @@ target-kept v hour limit = refl
 -- ---- a phase with a volume, and one with a target
 size-volume : (p : Pump) → 0 < sizeOf p → hereOf p .volume ≡ 0 → ⊥
 unfolding inFemtolitres
-size-volume p h z = omega (arith, h, ap (λ (x : ℕ). x * thousandth (volumeUnit (coreOf p .syringe .diameter))) z)
+size-volume p h z = omega (arith, h, ap (λ (x : ℕ). x * thousandth (volumeUnit (coreOf p .syringe))) z)
 
 aim-size : (p : Pump) → Whole p → 0 < aimOf p → 0 < sizeOf p
 aim-size p w h =
     let d = sound-facts p (w .sound) .ranges .diameter .0 in
-    let t = target-fits (coreOf p .syringe .diameter) (hereOf p .volume) d in
-    omega (arith, t .within, mul-le-mul h (step-volume-ge (coreOf p .syringe .diameter) d))
+    let t = target-fits (coreOf p .syringe) (hereOf p .volume) d in
+    omega (arith, t .within, mul-le-mul h (step-volume-ge (coreOf p .syringe) d))
 
 -- ---- a working tick of a visit
 module _ (p : Pump) (w : Whole p) (running : runOf p .mode ≡ Running) (v : Visit) (k : underWay p ≡ Visiting v) where
   abbrev limit : ℕ
-  limit = threshold (coreOf p .syringe .diameter)
+  limit = threshold (coreOf p .syringe)
 
-  facts : VisitFacts (coreOf p .syringe .diameter) (hereOf p) (runOf p .rate) v
+  facts : VisitFacts (coreOf p .syringe) (hereOf p) (runOf p .rate) v
   facts = sound-facts p (w .sound) .visit v k
 
   none-begins : (t : Moved) → begins (moved p t) ≡ false
@@ -147,7 +147,7 @@ module _ (p : Pump) (w : Whole p) (running : runOf p .mode ≡ Running) (v : Vis
               let t = giving (doing (runOf p) (Visiting next)) in
               gives v next (works-by p t Running (Visiting v) running k) k refl (none-begins t)
               (ends-by p t Running (Visiting next) true running refl (under-way t))
-              (record { volume = refl; diameter = refl })
+              (record { volume = refl; syringe = refl })
               (λ h.
               let g = below h in
               let s : 0 < v .target = omega arith in (
@@ -177,16 +177,16 @@ module _ (p : Pump) (w : Whole p) (running : runOf p .mode ≡ Running) (v : Vis
   -- a sound visit has a rate
   told-visit :
       (rate : Rate)
-      → Usable (coreOf p .syringe .diameter) rate
+      → Usable (coreOf p .syringe) rate
       → Told
       (moved p
       (worked (coreOf p) (hereOf p .direction)
-      (workAt (runOf p) (coreOf p .ledger) (coreOf p .syringe .diameter) (hereOf p .direction) v rate)))
+      (workAt (runOf p) (coreOf p .ledger) (coreOf p .syringe) (hereOf p .direction) v rate)))
   unfolding giveSteps
   told-visit NoRate u = absurd u
   told-visit (Current unit r) u =
       by-test (λ (g : Given). Told (moved p (worked (coreOf p) (hereOf p .direction) g)))
-      (leb (totalOf (coreOf p .ledger) (hereOf p .direction) + doseOf (coreOf p .syringe .diameter) v (hourly r unit)) mostTotal)
+      (leb (totalOf (coreOf p .ledger) (hereOf p .direction) + doseOf (coreOf p .syringe) v (hourly r unit)) mostTotal)
       (λ _. told-steps (hourly r unit) (hereOf p .direction) _)
       (λ _. told-alarm (hereOf p .direction))
 

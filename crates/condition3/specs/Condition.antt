@@ -35,8 +35,8 @@ InVisit e = 0 < stepsOf e → works e ≡ true
 
 -- and that visit is the newest that is written down: of the phase in place, at the diameter set, and not ended
 pub record Present (p : Pump) (w : Dose) : Type 0 where
-  pub its-volume : w .volume ≡ inFemtolitres (p .device .core .syringe .diameter) (hereOf p .volume)
-  pub its-v : w .v ≡ stepVolume (p .device .core .syringe .diameter)
+  pub its-volume : w .volume ≡ inFemtolitres (p .device .core .syringe) (hereOf p .volume)
+  pub its-v : w .v ≡ stepVolume (p .device .core .syringe)
   pub not-ended : w .ended ≡ false
 
 abbrev pub Newest : (Dose → Type 0) → List Dose → Type 0

@@ -10,6 +10,7 @@ use Rattle.drive.specs.Rates.{hourly}
 use Rattle.drive.specs.Syringe.{stepVolume, threshold, inFemtolitres}
 use Rattle.drive.specs.declared.directions.Direction.{Direction}
 use Rattle.drive.specs.declared.directions.Direction.the-variants.{Infuse, Withdraw}
+use Rattle.drive.specs.declared.syringe.Syringe.{Syringe}
 use Rattle.words.specs.Commands.{asksToClear}
 use Rattle.words.specs.Functions.{isRatePhase}
 use Rattle.dispense.specs.declared.rates.Rate.{Rate}
@@ -91,7 +92,7 @@ stepsTold d e = ofWay d (e .report .infused) (e .report .withdrawn)
 
 -- their volume, each at the step volume of the diameter then in force: old steps are never priced anew   (01, Volumes; Slips we have met)
 abbrev pub volumeOf : Direction → Event → ℕ
-volumeOf d e = stepsTold d e * stepVolume (e .before .device .core .syringe .diameter)
+volumeOf d e = stepsTold d e * stepVolume (e .before .device .core .syringe)
 
 -- the volume of the steps of several events
 unfoldable pub volume : Direction → List Event → ℕ
@@ -155,8 +156,8 @@ pub record Dose : Type 0 where
 abbrev pub newDose : Event → Dose
 newDose e =
     record {
-      volume = inFemtolitres (e .before .device .core .syringe .diameter) (hereOf (e .before) .volume);
-      v = stepVolume (e .before .device .core .syringe .diameter);
+      volume = inFemtolitres (e .before .device .core .syringe) (hereOf (e .before) .volume);
+      v = stepVolume (e .before .device .core .syringe);
       steps = 0;
       ended = false;
     }
@@ -201,22 +202,22 @@ abbrev pub unlessFull : ℕ → ℕ → ℕ → ℕ
 unlessFull x v n = if leb (x + n * v) 1_000_000_000_000_000_000 then n else 0
 
 -- at the current rate
-abbrev pub ruledRate : ℕ → ℕ → Visit → Rate → ℕ
-ruledRate x d v NoRate = 0
-ruledRate x d v (Current unit r) = unlessFull x (stepVolume d) (upTo v (due v (hourly r unit) (threshold d)))
+abbrev pub ruledRate : ℕ → Syringe → Visit → Rate → ℕ
+ruledRate x y v NoRate = 0
+ruledRate x y v (Current unit r) = unlessFull x (stepVolume y) (upTo v (due v (hourly r unit) (threshold y)))
 
 -- in a visit alone: not at entry, in a timed pause or in a trigger wait
-abbrev pub ruledWork : ℕ → ℕ → Run → Work → ℕ
-ruledWork x d r Entering = 0
-ruledWork x d r (Visiting v) = ruledRate x d v (r .rate)
-ruledWork x d r (Pausing left) = 0
-ruledWork x d r Waiting = 0
+abbrev pub ruledWork : ℕ → Syringe → Run → Work → ℕ
+ruledWork x y r Entering = 0
+ruledWork x y r (Visiting v) = ruledRate x y v (r .rate)
+ruledWork x y r (Pausing left) = 0
+ruledWork x y r Waiting = 0
 
 -- while the program runs
-abbrev pub ruledMode : ℕ → ℕ → Run → Mode → ℕ
-ruledMode x d r (Stopped alarm) = 0
-ruledMode x d r Paused = 0
-ruledMode x d r Running = ruledWork x d r (r .place .work)
+abbrev pub ruledMode : ℕ → Syringe → Run → Mode → ℕ
+ruledMode x y r (Stopped alarm) = 0
+ruledMode x y r Paused = 0
+ruledMode x y r Running = ruledWork x y r (r .place .work)
 
 -- at a tick, in the current phase's direction
 unfoldable pub ruled : Direction → ℕ → Pump → Call → ℕ
@@ -224,12 +225,12 @@ ruled d x p (byteIn b buffer) = 0
 ruled d x p (pinAt pin level) = 0
 ruled d x p tickIn =
     if sameWay d (hereOf p .direction)
-    then ruledMode x (p .device .core .syringe .diameter) (p .device .core .run) (p .device .core .run .mode)
+    then ruledMode x (p .device .core .syringe) (p .device .core .run) (p .device .core .run .mode)
     else 0
 
 -- the volume of those steps, added up, each at the volume of a step then in force, anew from each clearing on
 abbrev pub addedUp : Direction → ℕ → Event → ℕ
-addedUp d x e = if clears d e then 0 else x + ruled d x (e .before) (e .call) * stepVolume (e .before .device .core .syringe .diameter)
+addedUp d x e = if clears d e then 0 else x + ruled d x (e .before) (e .call) * stepVolume (e .before .device .core .syringe)
 
 unfoldable pub ruledVolume : Direction → List Event → ℕ
 ruledVolume d es = noted (addedUp d) 0 es

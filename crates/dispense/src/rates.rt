@@ -2,6 +2,7 @@
 ghost use mathlib.Core.Path.{_≡_};
 ghost use Rattle.dispense.specs.Rates.{increase, decrease, thousandths, isNoRate, isUsableRate};
 use drive::RateUnit;
+use drive::Syringe;
 
 // The current rate: its units, and how many thousandths of them. The unit comes first, so that no three bytes lie unused: the
 // compiler would carry them along at every tick.
@@ -61,12 +62,12 @@ impl Rate {
         }
     }
 
-    pub fn is_usable(self, d: u16) -> bool
-        ensures { λ r. ⌜ r ≡ isUsableRate d self ⌝ }
+    pub fn is_usable(self, syringe: Syringe) -> bool
+        ensures { λ r. ⌜ r ≡ isUsableRate syringe self ⌝ }
     {
         match self {
             Rate::NoRate => false,
-            Rate::Current(unit, r) => drive::is_usable(d, r, unit),
+            Rate::Current(unit, r) => syringe.is_usable(r, unit),
         }
     }
 }

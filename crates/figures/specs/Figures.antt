@@ -38,9 +38,9 @@ nested =
 unfoldable pub figures : List Row
 figures =
     -- a. D 100: v 1,963. b. D 10,000: 19,635,000. c. D 50,000: 490,875,000
-    number "a" 1_963 (stepVolume 100)
-    ∷ number "b" 19_635_000 (stepVolume 10_000)
-    ∷ number "c" 490_875_000 (stepVolume 50_000)
+    number "a" 1_963 (stepVolume (record { diameter = 100 }))
+    ∷ number "b" 19_635_000 (stepVolume (record { diameter = 10_000 }))
+    ∷ number "c" 490_875_000 (stepVolume (record { diameter = 50_000 }))
     -- d. `DIA0.099` is `?OOR`; `0.1` accepted
     ∷ talks "d" (("", "00A?R") ∷ ("DIA0.099", "00S?OOR") ∷ [])
     ∷ talks "d" (("", "00A?R") ∷ ("DIA0.1", "00S") ∷ [])

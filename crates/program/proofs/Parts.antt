@@ -85,7 +85,7 @@ pub record CoreClauses (phases : ℕ) (s : Core) (here : Phase) : Type 0 where
   pub chosen-most : s .chosen ≤ phases
   pub ledger-sound : isSoundLedger (s .ledger) ≡ true
   pub under-way : isSoundRun phases (s .run) ≡ true
-  pub work-sound : isSoundWork (s .syringe .diameter) here (s .run .rate) (s .run .place .work) ≡ true
+  pub work-sound : isSoundWork (s .syringe) here (s .run .rate) (s .run .place .work) ≡ true
 
 module _ (phases : ℕ) (s : Core) (here : Phase) where
   pub core-clauses : isSoundCore phases s here ≡ true → CoreClauses phases s here

@@ -10,6 +10,7 @@ use Rattle.base.specs.All.{all}
 use Rattle.decimal.specs.Writable.{writable}
 use Rattle.drive.specs.Rates.{mostRate}
 use Rattle.drive.specs.Syringe.{diameter, threshold, target}
+use Rattle.drive.specs.declared.syringe.Syringe.{Syringe}
 use Rattle.words.specs.Functions.{isPhase, isRatePhase, pauseTicks, isWait}
 use Rattle.words.specs.Phases.{isSoundPhase}
 use Rattle.words.specs.declared.functions.Function.the-variants as f
@@ -37,24 +38,24 @@ isSoundTrap phases (Armed n) = isPhase phases n
 
 -- ---- a visit: the store below the threshold, the target that phase, volume and diameter give, the steps given below it (a continuous
 -- visit has no target and counts none), a usable rate, in a RAT, INC or DEC phase
-abbrev pub visitTests : ℕ → Phase → Rate → Visit → List Bool
-visitTests d p rate v =
-    ltb (v .store) (threshold d)
-    ∷ eqb (v .target) (target d (p .volume))
+abbrev pub visitTests : Syringe → Phase → Rate → Visit → List Bool
+visitTests y p rate v =
+    ltb (v .store) (threshold y)
+    ∷ eqb (v .target) (target y (p .volume))
     ∷ (ltb (v .given) (v .target) || eqb (p .volume) 0 && eqb (v .given) 0)
-    ∷ isUsableRate d rate
+    ∷ isUsableRate y rate
     ∷ isRatePhase (p .function)
     ∷ []
 
-unfoldable pub isSoundVisit : ℕ → Phase → Rate → Visit → Bool
-isSoundVisit d p rate v = all (visitTests d p rate v)
+unfoldable pub isSoundVisit : Syringe → Phase → Rate → Visit → Bool
+isSoundVisit y p rate v = all (visitTests y p rate v)
 
 -- ---- a timed pause stands in a PAS phase above 0 with 1 to its full number of ticks left; a trigger wait in PAS 0
-abbrev pub isSoundWork : ℕ → Phase → Rate → Work → Bool
-isSoundWork d p rate Entering = true
-isSoundWork d p rate (Visiting v) = isSoundVisit d p rate v
-isSoundWork d p rate (Pausing left) = leb 1 left && leb left (pauseTicks (p .function))
-isSoundWork d p rate Waiting = isWait (p .function)
+abbrev pub isSoundWork : Syringe → Phase → Rate → Work → Bool
+isSoundWork y p rate Entering = true
+isSoundWork y p rate (Visiting v) = isSoundVisit y p rate v
+isSoundWork y p rate (Pausing left) = leb 1 left && leb left (pauseTicks (p .function))
+isSoundWork y p rate Waiting = isWait (p .function)
 
 -- ---- a stopped pump has none of these three and no trap, loop or current rate
 abbrev pub isNoTrap : Trap → Bool
@@ -92,7 +93,7 @@ coreTests phases s here =
     ∷ leb (s .chosen) phases
     ∷ isSoundLedger (s .ledger)
     ∷ isSoundRun phases (s .run)
-    ∷ isSoundWork (s .syringe .diameter) here (s .run .rate) (s .run .place .work)
+    ∷ isSoundWork (s .syringe) here (s .run .rate) (s .run .place .work)
     ∷ []
 
 unfoldable pub isSoundCore : ℕ → Core → Phase → Bool

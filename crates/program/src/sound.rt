@@ -9,6 +9,7 @@ use crate::state::Trap;
 use crate::state::Work;
 use dispense::Rate;
 use dispense::Visit;
+use drive::Syringe;
 use words::Phase;
 
 impl Core {
@@ -28,7 +29,7 @@ impl Core {
             & (self.chosen <= phases)
             & self.ledger.is_sound()
             & run.is_sound(phases)
-            & work.is_sound(self.syringe.diameter, here, rate)
+            & work.is_sound(self.syringe, here, rate)
     }
 }
 
@@ -65,13 +66,13 @@ impl Run {
 }
 
 impl Work {
-    fn is_sound(self, d: u16, here: Phase, rate: Rate) -> bool
-        ensures { λ r. ⌜ r ≡ isSoundWork d here rate self ⌝ }
+    fn is_sound(self, syringe: Syringe, here: Phase, rate: Rate) -> bool
+        ensures { λ r. ⌜ r ≡ isSoundWork syringe here rate self ⌝ }
     {
         let function = here.function;
         match self {
             Work::Entering => true,
-            Work::Visiting(visit) => is_sound_visit(visit, d, here, rate),
+            Work::Visiting(visit) => is_sound_visit(visit, syringe, here, rate),
             Work::Pausing(left) => (1 <= left) & (left <= function.pause_ticks()),
             Work::Waiting => function.is_wait(),
         }
@@ -99,15 +100,15 @@ impl Trap {
 }
 
 // Whether a visit to this phase, at this rate, may be under way.
-fn is_sound_visit(visit: Visit, d: u16, here: Phase, rate: Rate) -> bool
-    ensures { λ r. ⌜ r ≡ isSoundVisit d here rate visit ⌝ }
+fn is_sound_visit(visit: Visit, syringe: Syringe, here: Phase, rate: Rate) -> bool
+    ensures { λ r. ⌜ r ≡ isSoundVisit syringe here rate visit ⌝ }
 {
     let function = here.function;
-    let threshold = drive::step_threshold(d);
-    let target = drive::step_target(d, here.volume);
+    let threshold = syringe.step_threshold();
+    let target = syringe.step_target(here.volume);
     (visit.store < threshold)
         & (visit.target == target)
         & ((visit.given < visit.target) | (here.volume == 0) & (visit.given == 0))
-        & rate.is_usable(d)
+        & rate.is_usable(syringe)
         & function.is_rate_phase()
 }

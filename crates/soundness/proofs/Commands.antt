@@ -104,7 +104,7 @@ module _ (phases : ℕ) (look : ℕ → Phase) (table : Table phases look) (s : 
       let chosen : inHand s ≡ s .chosen = ap (λ (t : Bool). if t then s .run .place .current else s .chosen) rests in (
         sound,
         omega (arith, chosen, parts .chosen-most),
-        set.settle-sound phases s here parts rests (s .syringe .diameter) _ (parts .in-range) (parts .written),
+        set.settle-sound phases s here parts rests (s .syringe) _ (parts .in-range) (parts .written),
       )
 
   -- ---- DIA
@@ -115,7 +115,7 @@ module _ (phases : ℕ) (look : ℕ → Phase) (table : Table phases look) (s : 
       (λ e.
       let idle = by-else (isOperating (s .run)) NotApplicable _ refl e in
       let fit = by-then (diameter x) Accepted OutOfRange refl (idle .1) in
-      set.settle-sound phases s here parts (idle .0) x _ (fit .0) w)
+      set.settle-sound phases s here parts (idle .0) (record { diameter = x }) _ (fit .0) w)
 
   -- ---- RAT: the current rate alone, at one that is usable
   tune-well :
@@ -123,11 +123,11 @@ module _ (phases : ℕ) (look : ℕ → Phase) (table : Table phases look) (s : 
       → writable x ≡ true
       → isOperating (s .run) ≡ true
       → (rate : Rate)
-      → judging.judgeRate (s .syringe .diameter) x rate ≡ Accepted
+      → judging.judgeRate (s .syringe) x rate ≡ Accepted
       → Kept phases look (withRun s (tuneBy (s .run) x rate))
   tune-well x w op NoRate e = kept
   tune-well x w op (Current unit r) e =
-      let d = s .syringe .diameter in
+      let d = s .syringe in
       let g = going op in
       let u = by-then (usable d x unit) Accepted OutOfRange refl e .0 in
       with-run-kept phases look s kept (withRate (s .run) (Current unit x)) (
@@ -143,10 +143,10 @@ module _ (phases : ℕ) (look : ℕ → Phase) (table : Table phases look) (s : 
       let now = isFlow (hand .function) && isVisiting (s .run .place .work) && not (isRamp next) && judging.isOwn units in
       by-test (Well phases look s) (isOperating (s .run))
       (λ op.
-      decided _ Keep (judging.judgeTuning (s .run) (s .syringe .diameter) hand next x units)
+      decided _ Keep (judging.judgeTuning (s .run) (s .syringe) hand next x units)
       (λ e. tune-well x w op (s .run .rate) (by-then now _ NotApplicable refl e .1)))
       (λ rests.
-      decided (settle s) (Write _) (judging.judgeStored (s .syringe .diameter) hand x units)
+      decided (settle s) (Write _) (judging.judgeStored (s .syringe) hand x units)
       (λ e. write-well rests _ (set.stored-sound phases hand (table .every (inHand s)) x _ w)))
 
   -- ---- VOL
@@ -203,7 +203,7 @@ module _ (phases : ℕ) (look : ℕ → Phase) (table : Table phases look) (s : 
   directed-kept : (k : ℕ) (way : Direction) → Kept phases (withPhase look k (withDirection (look k) way)) s
   directed-kept k way =
       let directed = given-sound phases look s kept (s .run) (s .ledger) (withDirection here way) (parts .under-way)
-      (set.work-directed (s .syringe .diameter) here way (s .run .rate) (s .run .place .work) (parts .work-sound))
+      (set.work-directed (s .syringe) here way (s .run .rate) (s .run .place .work) (parts .work-sound))
       (parts .ledger-sound) in
       by-test (λ (p : Phase). isSoundCore phases s p ≡ true) (eqb (s .run .place .current) k)
       (λ e. subst (λ (n : ℕ). isSoundCore phases s (withDirection (look n) way) ≡ true) (eqb-true (s .run .place .current) k e) directed)

@@ -7,6 +7,7 @@ use native.Mathlib.Omega.{arith}
 use lib.Dec.{eqb}
 use borrow.Author.Tests.{eqb-true, ne-eqb}
 use Rattle.base.proofs.Choices.{and-left, false-true}
+use Rattle.drive.specs.declared.syringe.Syringe.{Syringe}
 use Rattle.words.specs.Functions.{number, datum, isPhase}
 use Rattle.words.specs.declared.phases.Phase.{Phase}
 use Rattle.dispense.specs.declared.rates.Rate.{Rate}
@@ -26,7 +27,7 @@ use Rattle.soundness.proofs.Runs.{by-test, phase-bounds, fresh-kept, go
 
 -- a trigger wait stands in no phase that stops
 wait-not-stop :
-    (d : ℕ) (p : Phase) (rate : Rate) (w : Work)
+    (d : Syringe) (p : Phase) (rate : Rate) (w : Work)
     → not (isWaiting w) ≡ false
     → isSoundWork d p rate w ≡ true
     → eqb (number (p .function)) 3 ≡ false
@@ -37,7 +38,7 @@ wait-not-stop d p rate Waiting e h =
     let n = eqb-true (number (p .function)) 8 (and-left (eqb (number (p .function)) 8) (eqb (datum (p .function)) 0) h) in
     ne-eqb (number (p .function)) 3 (λ z. omega arith)
 
-module _ (phases : ℕ) (look : ℕ → Phase) (d : ℕ) (r : Run) (kept : KeptRun phases look d r) where
+module _ (phases : ℕ) (look : ℕ → Phase) (d : Syringe) (r : Run) (kept : KeptRun phases look d r) where
   clauses : RunClauses phases r
   clauses = run-clauses phases r (kept .0)
 

@@ -32,14 +32,14 @@ module _ (phases : ℕ) (look : ℕ → Phase) (s : Core) (kept : Kept phases lo
   clauses = core-clauses phases s here kept
 
   -- ---- the core with another program under way
-  pub run-kept : KeptRun phases look (s .syringe .diameter) (s .run)
+  pub run-kept : KeptRun phases look (s .syringe) (s .run)
   run-kept = (clauses .under-way, clauses .work-sound)
 
   -- and another ledger, with any phase in hand
   pub given-sound :
       (r : Run) (l : Ledger) (p : Phase)
       → isSoundRun phases r ≡ true
-      → isSoundWork (s .syringe .diameter) p (r .rate) (r .place .work) ≡ true
+      → isSoundWork (s .syringe) p (r .rate) (r .place .work) ≡ true
       → isSoundLedger l ≡ true
       → isSoundCore phases (withLedger (withRun s r) l) p ≡ true
   given-sound r l p a w e =
@@ -54,7 +54,7 @@ module _ (phases : ℕ) (look : ℕ → Phase) (s : Core) (kept : Kept phases lo
         work-sound = w;
       })
 
-  pub with-run-kept : (r : Run) → KeptRun phases look (s .syringe .diameter) r → Kept phases look (withRun s r)
+  pub with-run-kept : (r : Run) → KeptRun phases look (s .syringe) r → Kept phases look (withRun s r)
   with-run-kept r k = given-sound r (s .ledger) (look (r .place .current)) (k .0) (k .1) (clauses .ledger-sound)
 
   -- what the code of a tick may rely on

@@ -3,6 +3,7 @@
 use Prim.Native.Nat.{ℕ}
 use mathlib.Core.Path.{_≡_, refl}
 use mathlib.Core.Bool.{Bool, true}
+use Rattle.drive.specs.declared.syringe.Syringe.{Syringe}
 use Rattle.words.specs.declared.phases.Phase.{Phase}
 use Rattle.program.specs.Cores.{withRun}
 use Rattle.program.specs.Edges.{falls, withTwo, withFour, unlessAlarm, footSwitch, pinTwo, springBy, springIn, spring, pinFour, pinSix}
@@ -24,7 +25,7 @@ use Rattle.soundness.proofs.Cores.{run-kept, with-run-kept, levels-kept
 use Rattle.soundness.proofs.Entering.{fire-kept}
 use Rattle.soundness.proofs.Runs.{by-test, going-of}
 
-module _ (phases : ℕ) (look : ℕ → Phase) (d : ℕ) (r : Run) (kept : KeptRun phases look d r) where
+module _ (phases : ℕ) (look : ℕ → Phase) (d : Syringe) (r : Run) (kept : KeptRun phases look d r) where
   -- ---- pin 4
   spring-kept : KeptRun phases look d (spring r)
   unfolding spring

@@ -12,6 +12,7 @@ use Rattle.decimal.proofs.Grid.{writable-grid}
 use Rattle.drive.specs.Rates.{mostRate}
 use Rattle.drive.specs.Syringe.{diameter, threshold, target}
 use Rattle.drive.proofs.Bounds.{threshold-ge}
+use Rattle.drive.specs.declared.syringe.Syringe.{Syringe}
 use Rattle.words.specs.Functions.{number, fits, isPhase, isRatePhase, isWait, pauseTicks}
 use Rattle.words.specs.declared.answers.Alarm.the-variants.{Program}
 use Rattle.words.specs.declared.functions.Function.{Function}
@@ -51,17 +52,17 @@ decrease-most NoRate x h = omega arith
 decrease-most (Current unit r) x h = omega arith
 
 -- a diameter in its range gives a threshold
-pub threshold-above : (d : ℕ) → diameter d ≡ true → 0 < threshold d
+pub threshold-above : (d : Syringe) → diameter (d .diameter) ≡ true → 0 < threshold d
 unfolding diameter
-threshold-above d e = omega (arith, threshold-ge d (leb-true 100 d (and-left (leb 100 d) (leb d 50_000) e)))
+threshold-above d e = omega (arith, threshold-ge d (leb-true 100 (d .diameter) (and-left (leb 100 (d .diameter)) (leb (d .diameter) 50_000) e)))
 
-module _ (phases : ℕ) (look : ℕ → Phase) (d : ℕ) (r : Run) (g : Going phases r) where
+module _ (phases : ℕ) (look : ℕ → Phase) (d : Syringe) (r : Run) (g : Going phases r) where
   abbrev here : Phase
   here = look (r .place .current)
 
   -- ---- RAT, INC, DEC: a visit begun at a usable current rate, or ended at entry
   begin-kept :
-      diameter d ≡ true
+      diameter (d .diameter) ≡ true
       → r .place .current ≤ phases
       → isRatePhase (here .function) ≡ true
       → isUsableRate d (r .rate) ≡ true
@@ -147,7 +148,7 @@ module _ (phases : ℕ) (look : ℕ → Phase) (d : ℕ) (r : Run) (g : Going ph
   unfolding clearTrap
   evr-kept c = next-kept phases look d (withTrap r NoTrap) (going-trap NoTrap refl) c
 
-module _ (phases : ℕ) (look : ℕ → Phase) (table : Table phases look) (d : ℕ) (e : diameter d ≡ true) (r : Run) (g : Going phases r) where
+module _ (phases : ℕ) (look : ℕ → Phase) (table : Table phases look) (d : Syringe) (e : diameter (d .diameter) ≡ true) (r : Run) (g : Going phases r) where
   abbrev now : Phase
   now = look (r .place .current)
 

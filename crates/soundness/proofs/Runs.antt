@@ -11,6 +11,7 @@ use Rattle.base.specs.If.{if_then_else_}
 use Rattle.base.proofs.Choices as choices
 use Rattle.base.proofs.Choices.{and-left, and-right}
 use Rattle.drive.specs.Rates.{mostRate}
+use Rattle.drive.specs.declared.syringe.Syringe.{Syringe}
 use Rattle.words.specs.Functions.{number, isPhase}
 use Rattle.words.specs.declared.phases.Phase.{Phase}
 use Rattle.loops.specs.Loops.{isSoundLoops}
@@ -56,7 +57,7 @@ fresh-sound phases n m lo hi =
       mode-sound = fresh-mode n m;
     }
 
-pub fresh-kept : (phases : ℕ) (look : ℕ → Phase) (d n : ℕ) (m : Mode) → 1 ≤ n → n ≤ phases + 1 → KeptRun phases look d (freshAt n m)
+pub fresh-kept : (phases : ℕ) (look : ℕ → Phase) (d : Syringe) (n : ℕ) (m : Mode) → 1 ≤ n → n ≤ phases + 1 → KeptRun phases look d (freshAt n m)
 fresh-kept phases look d n m lo hi = (run-sound phases (freshAt n m) (fresh-sound phases n m lo hi), refl)
 
 -- ---- a program whose mode asks nothing of the rest: it runs
@@ -90,7 +91,7 @@ going-with phases r rate trap loops g a b c =
     }
 
 -- ---- where it goes, and how it ends
-module _ (phases : ℕ) (look : ℕ → Phase) (d : ℕ) (r : Run) (g : Going phases r) where
+module _ (phases : ℕ) (look : ℕ → Phase) (d : Syringe) (r : Run) (g : Going phases r) where
   placed-kept :
       (work : Work) (n : ℕ)
       → 1 ≤ n
@@ -123,7 +124,7 @@ module _ (phases : ℕ) (look : ℕ → Phase) (d : ℕ) (r : Run) (g : Going ph
   pub doing-kept : (work : Work) → isSoundWork d (look (r .place .current)) (r .rate) work ≡ true → KeptRun phases look d (doing r work)
   doing-kept work w = placed-kept work (r .place .current) (g .clauses .least) (g .clauses .most) w
 
-module _ (phases : ℕ) (look : ℕ → Phase) (d : ℕ) (r : Run) (c : RunClauses phases r) where
+module _ (phases : ℕ) (look : ℕ → Phase) (d : Syringe) (r : Run) (c : RunClauses phases r) where
   -- stopped at the phase where it stands, with an alarm or none
   pub stop-kept : (alarm : Pending) → KeptRun phases look d (freshAt (r .place .current) (Stopped alarm))
   stop-kept alarm = fresh-kept phases look d (r .place .current) (Stopped alarm) (c .least) (c .most)

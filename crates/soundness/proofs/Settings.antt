@@ -10,6 +10,7 @@ use Rattle.drive.specs.Rates.{usable}
 use Rattle.drive.specs.Syringe.{diameter}
 use Rattle.drive.specs.declared.rates.RateUnit.{RateUnit}
 use Rattle.drive.specs.declared.directions.Direction.{Direction}
+use Rattle.drive.specs.declared.syringe.Syringe.{Syringe}
 use Rattle.words.specs.Functions.{fits}
 use Rattle.words.specs.Phases.{isSoundPhase}
 use Rattle.words.specs.declared.functions.Function.{Function}
@@ -54,7 +55,7 @@ module _ (phases : ℕ) (p : Phase) (sound : isSoundPhase phases p ≡ true) whe
 
 -- ---- what is done in a phase stays sound in another direction, and at another usable rate; nothing done is sound in any phase
 pub work-directed :
-    (d : ℕ) (p : Phase) (way : Direction) (rate : Rate) (w : Work)
+    (d : Syringe) (p : Phase) (way : Direction) (rate : Rate) (w : Work)
     → isSoundWork d p rate w ≡ true
     → isSoundWork d (withDirection p way) rate w ≡ true
 unfolding isSoundVisit
@@ -64,7 +65,7 @@ work-directed d p way rate (Pausing left) e = e
 work-directed d p way rate Waiting e = e
 
 pub work-tuned :
-    (d : ℕ) (p : Phase) (rate : Rate) (x : ℕ) (unit : RateUnit) (w : Work)
+    (d : Syringe) (p : Phase) (rate : Rate) (x : ℕ) (unit : RateUnit) (w : Work)
     → usable d x unit ≡ true
     → isSoundWork d p rate w ≡ true
     → isSoundWork d p (Current unit x) w ≡ true
@@ -76,7 +77,7 @@ work-tuned d p rate x unit (Visiting v) u e =
 work-tuned d p rate x unit (Pausing left) u e = e
 work-tuned d p rate x unit Waiting u e = e
 
-entering-sound : (d : ℕ) (p : Phase) (rate : Rate) (w : Work) → isEntering w ≡ true → isSoundWork d p rate w ≡ true
+entering-sound : (d : Syringe) (p : Phase) (rate : Rate) (w : Work) → isEntering w ≡ true → isSoundWork d p rate w ≡ true
 entering-sound d p rate Entering e = refl
 entering-sound d p rate (Visiting v) e = false-true e
 entering-sound d p rate (Pausing left) e = false-true e
@@ -93,17 +94,17 @@ settled phases r (Stopped alarm) u h e = (run-sound phases r u, each (idleTests 
 settled phases r Paused u h e = (run-sound phases _ (fresh-sound phases _ (Stopped NoAlarm) (u .least) (u .most)), refl)
 settled phases r Running u h e = false-true (sym e)
 
--- so it is sound with any phase in hand and any diameter
+-- so it is sound with any phase in hand and any syringe
 pub settle-sound :
     (phases : ℕ) (s : Core) (here : Phase)
     → CoreClauses phases s here
     → isOperating (s .run) ≡ false
-    → (x : ℕ) (p : Phase)
-    → diameter x ≡ true
-    → writable x ≡ true
-    → isSoundCore phases (withSyringe (settle s) (record { diameter = x })) p ≡ true
+    → (y : Syringe) (p : Phase)
+    → diameter (y .diameter) ≡ true
+    → writable (y .diameter) ≡ true
+    → isSoundCore phases (withSyringe (settle s) y) p ≡ true
 unfolding settle
-settle-sound phases s here k rests x p e w =
+settle-sound phases s here k rests y p e w =
     let u = run-clauses phases (s .run) (k .under-way) in
     let t = settled phases (s .run) (s .run .mode) u (u .mode-sound) rests in
     let q = settleBy (s .run) (s .run .mode) in
@@ -115,5 +116,5 @@ settle-sound phases s here k rests x p e w =
       chosen-most = k .chosen-most;
       ledger-sound = k .ledger-sound;
       under-way = t .0;
-      work-sound = entering-sound x p (q .rate) (q .place .work) (t .1);
+      work-sound = entering-sound y p (q .rate) (q .place .work) (t .1);
     })

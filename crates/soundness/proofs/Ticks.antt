@@ -36,21 +36,21 @@ module _ (phases : ℕ) (look : ℕ → Phase) (table : Table phases look) (s : 
   work-by-kept :
       Going phases (s .run)
       → (work : Work)
-      → isSoundWork (s .syringe .diameter) now (s .run .rate) work ≡ true
+      → isSoundWork (s .syringe) now (s .run .rate) work ≡ true
       → Kept phases look (workBy s now work .core)
   unfolding entered
   work-by-kept g Entering w =
       levels-kept phases look _ (s .pins) _
       (with-run-kept phases look s kept _
-      (enter-kept phases look table (s .syringe .diameter) (clauses phases look s kept .in-range) (s .run) g (s .pins)))
+      (enter-kept phases look table (s .syringe) (clauses phases look s kept .in-range) (s .run) g (s .pins)))
   work-by-kept g (Visiting v) w =
       let c = clauses phases look s kept in
-      let k = visit-kept phases look table (s .syringe .diameter) (c .in-range) (s .run) g (s .ledger) (now .direction) v
+      let k = visit-kept phases look table (s .syringe) (c .in-range) (s .run) g (s .ledger) (now .direction) v
       (run-kept phases look s kept) (c .ledger-sound) w in
       steps-kept phases look _ (now .direction) _ (given-sound phases look s kept _ _ _ (k .0 .0) (k .0 .1) (k .1))
   work-by-kept g (Pausing left) w =
       with-run-kept phases look s kept _
-      (pause-kept phases look table (s .syringe .diameter) (clauses phases look s kept .in-range) (s .run) g left w)
+      (pause-kept phases look table (s .syringe) (clauses phases look s kept .in-range) (s .run) g left w)
   work-by-kept g Waiting w = kept
 
   -- by its mode: only a running program moves

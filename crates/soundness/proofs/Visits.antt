@@ -11,6 +11,7 @@ use Rattle.base.specs.If.{if_then_else_}
 use Rattle.base.proofs.Choices.{false-true}
 use Rattle.base.proofs.Each.{each, all-of}
 use Rattle.drive.specs.Syringe.{threshold, target}
+use Rattle.drive.specs.declared.syringe.Syringe.{Syringe}
 use Rattle.words.specs.Functions.{isRatePhase}
 use Rattle.words.specs.declared.phases.Phase.{Phase}
 use Rattle.dispense.specs.Rates.{isUsableRate}
@@ -30,7 +31,7 @@ none-given (suc m) zero h = false-true (sym h ∙ simp (positive m))
 none-given (suc m) (suc n) h = simp (positive n)
 
 pub begun-sound :
-    (d : ℕ) (p : Phase) (rate : Rate)
+    (d : Syringe) (p : Phase) (rate : Rate)
     → 0 < threshold d
     → isUsableRate d rate ≡ true
     → isRatePhase (p .function) ≡ true
@@ -54,7 +55,7 @@ below (suc n) given more u h d =
     simp (some, lt-ltb more (suc n) (leb-false (suc n) more few))
 
 pub worked-sound :
-    (d : ℕ) (p : Phase) (rate : Rate) (v : Visit) (hourly : ℕ)
+    (d : Syringe) (p : Phase) (rate : Rate) (v : Visit) (hourly : ℕ)
     → 0 < threshold d
     → isSoundVisit d p rate v ≡ true
     → isDone (workedOf v hourly (threshold d)) ≡ false

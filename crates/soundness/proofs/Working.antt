@@ -12,6 +12,7 @@ use Rattle.drive.specs.Rates.{hourly}
 use Rattle.drive.specs.Syringe.{diameter, threshold}
 use Rattle.drive.specs.declared.directions.Direction.{Direction}
 use Rattle.drive.specs.declared.directions.Direction.the-variants.{Infuse, Withdraw}
+use Rattle.drive.specs.declared.syringe.Syringe.{Syringe}
 use Rattle.words.specs.Functions.{number, pauseTicks}
 use Rattle.words.specs.declared.answers.Alarm.the-variants.{Program}
 use Rattle.words.specs.declared.functions.Function.{Function}
@@ -34,7 +35,7 @@ use Rattle.soundness.proofs.Runs.{by-test, Going, next-kept, doing-kept
 use Rattle.soundness.proofs.Visits.{worked-sound}
 
 -- what a working tick must leave sound
-abbrev pub KeptGiven : ℕ → (ℕ → Phase) → ℕ → Given → Type 0
+abbrev pub KeptGiven : ℕ → (ℕ → Phase) → Syringe → Given → Type 0
 KeptGiven phases look d x = KeptRun phases look d (x .run) × (isSoundLedger (x .ledger) ≡ true)
 
 -- ---- a sound ledger with another total that is at most its limit
@@ -52,7 +53,7 @@ figure-sound l Withdraw x e h =
 pub rate-not-stop : (n : ℕ) → leb n 2 ≡ true → eqb n 3 ≡ false
 rate-not-stop n h = ne-eqb n 3 (λ e. let k = leb-true n 2 h in omega arith)
 
-visit-not-stop : (d : ℕ) (p : Phase) (rate : Rate) (v : Visit) → isSoundVisit d p rate v ≡ true → eqb (number (p .function)) 3 ≡ false
+visit-not-stop : (d : Syringe) (p : Phase) (rate : Rate) (v : Visit) → isSoundVisit d p rate v ≡ true → eqb (number (p .function)) 3 ≡ false
 unfolding isSoundVisit
 visit-not-stop d p rate v w = rate-not-stop (number (p .function)) (each (visitTests d p rate v) w .1 .1 .1 .1 .0)
 
@@ -61,7 +62,7 @@ pause-not-stop g left lo hi =
     ne-eqb (number g) 3
     (λ e. let none : pauseTicks g ≡ 0 = simp (ne-eqb (number g) 8 (omega arith), ne-eqb (number g) 9 (omega arith)) in absurd (omega arith))
 
-module _ (phases : ℕ) (look : ℕ → Phase) (table : Table phases look) (d : ℕ) (e : diameter d ≡ true) (r : Run) (g : Going phases r) where
+module _ (phases : ℕ) (look : ℕ → Phase) (table : Table phases look) (d : Syringe) (e : diameter (d .diameter) ≡ true) (r : Run) (g : Going phases r) where
   abbrev here : Phase
   here = look (r .place .current)
 

@@ -4,6 +4,7 @@ use mathlib.Core.Path.{_≡_}
 use mathlib.Core.Bool.{true}
 use lib.Dec.{eqb}
 use Rattle.base.specs.If.{if_then_else_}
+use Rattle.drive.specs.declared.syringe.Syringe.{Syringe}
 use Rattle.words.specs.Phases.{isSoundPhase}
 use Rattle.words.specs.declared.phases.Phase.{Phase}
 use Rattle.program.specs.Sound.{isSoundCore, isSoundRun, isSoundWork}
@@ -18,10 +19,10 @@ use Rattle.command.specs.declared.obeying.Obeyed.{Obeyed}
 abbrev pub Kept : ℕ → (ℕ → Phase) → Core → Type 0
 Kept phases look s = isSoundCore phases s (look (s .run .place .current)) ≡ true
 
--- the program under way alone, with a syringe of diameter d
-abbrev pub KeptRun : ℕ → (ℕ → Phase) → ℕ → Run → Type 0
-KeptRun phases look d r =
-    (isSoundRun phases r ≡ true) × (isSoundWork d (look (r .place .current)) (r .rate) (r .place .work) ≡ true)
+-- the program under way alone, with its syringe
+abbrev pub KeptRun : ℕ → (ℕ → Phase) → Syringe → Run → Type 0
+KeptRun phases look y r =
+    (isSoundRun phases r ≡ true) × (isSoundWork y (look (r .place .current)) (r .rate) (r .place .work) ≡ true)
 
 -- the table with another phase at one number
 abbrev pub withPhase : (ℕ → Phase) → ℕ → Phase → ℕ → Phase

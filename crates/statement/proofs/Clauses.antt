@@ -15,6 +15,7 @@ use Rattle.base.proofs.Each.{each, all-of, and-both, either}
 use Rattle.decimal.proofs.Theorems.{writable-iff}
 use Rattle.drive.specs.Syringe.{inFemtolitres, target}
 use Rattle.drive.proofs.Theorems.{usable-iff}
+use Rattle.drive.specs.declared.syringe.Syringe.{Syringe}
 use Rattle.words.specs.Functions.{fits, isRatePhase, isWait}
 use Rattle.words.specs.Phases.{isSoundPhase}
 use Rattle.words.specs.declared.functions.Function.{Function}
@@ -134,16 +135,16 @@ module _ (phases : ℕ) where
       (phases-test ps (λ i k. h (suc i) (omega arith)))
 
 -- ---- a visit
-usable-rate : (d : ℕ) (rate : Rate) → (isUsableRate d rate ≡ true) ↔ Usable d rate
+usable-rate : (d : Syringe) (rate : Rate) → (isUsableRate d rate ≡ true) ↔ Usable d rate
 usable-rate d NoRate = ((λ h. false-true h), (λ u. absurd u))
 usable-rate d (Current unit r) = usable-iff d r unit
 
 -- no volume has no target
-no-target : (d volume : ℕ) → volume ≡ 0 → target d volume ≡ 0
+no-target : (d : Syringe) (volume : ℕ) → volume ≡ 0 → target d volume ≡ 0
 unfolding target inFemtolitres
 no-target d volume e = rw e (simp (zero-mul, zero-div))
 
-module _ (d : ℕ) (here : Phase) (rate : Rate) (v : Visit) where
+module _ (d : Syringe) (here : Phase) (rate : Rate) (v : Visit) where
   pub visit-facts : isSoundVisit d here rate v ≡ true → VisitFacts d here rate v
   unfolding isSoundVisit
   visit-facts h =

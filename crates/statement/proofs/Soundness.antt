@@ -65,8 +65,8 @@ module _ (p : Pump) (e : isSoundPump p ≡ true) where
         line = clauses.line-facts (p .device .line) (pump-line p e);
       }
 
-  work : (w : Work) → underWay p ≡ w → isSoundWork (coreOf p .syringe .diameter) (hereOf p) (runOf p .rate) w ≡ true
-  work w k = sym (ap (isSoundWork (coreOf p .syringe .diameter) (hereOf p) (runOf p .rate)) k) ∙ core .work-sound
+  work : (w : Work) → underWay p ≡ w → isSoundWork (coreOf p .syringe) (hereOf p) (runOf p .rate) w ≡ true
+  work w k = sym (ap (isSoundWork (coreOf p .syringe) (hereOf p) (runOf p .rate)) k) ∙ core .work-sound
 
   pub sound-facts : Sound p
   sound-facts =
@@ -76,7 +76,7 @@ module _ (p : Pump) (e : isSoundPump p ≡ true) where
         phases = clauses.each-phase (phaseCount p) (p .phases) (pump-phases p e);
         three-loops = count-le (phaseCount p) (runOf p .loops) (run .loops-sound);
         different-phases = loops-differ (phaseCount p) (runOf p .loops) (run .loops-sound);
-        visit = λ v k. clauses.visit-facts (coreOf p .syringe .diameter) (hereOf p) (runOf p .rate) v (work (Visiting v) k);
+        visit = λ v k. clauses.visit-facts (coreOf p .syringe) (hereOf p) (runOf p .rate) v (work (Visiting v) k);
         passes-few = λ i k. loop-bounded (phaseCount p) (runOf p .loops) (run .loops-sound) i k .passes-most;
         pause = λ left k. between 1 left (pauseTicks (hereOf p .function)) .0 (work (Pausing left) k);
         wait = λ k. clauses.stands-in (hereOf p .function) .1 (work Waiting k);
@@ -103,9 +103,9 @@ module _ (p : Pump) (s : Sound p) where
         mode-sound = clauses.mode-test (runOf p) (runOf p .mode) (s .stopped);
       }
 
-  work-test : (w : Work) → underWay p ≡ w → isSoundWork (coreOf p .syringe .diameter) (hereOf p) (runOf p .rate) w ≡ true
+  work-test : (w : Work) → underWay p ≡ w → isSoundWork (coreOf p .syringe) (hereOf p) (runOf p .rate) w ≡ true
   work-test Entering e = refl
-  work-test (Visiting v) e = clauses.visit-test (coreOf p .syringe .diameter) (hereOf p) (runOf p .rate) v (s .visit v e)
+  work-test (Visiting v) e = clauses.visit-test (coreOf p .syringe) (hereOf p) (runOf p .rate) v (s .visit v e)
   work-test (Pausing left) e = between 1 left (pauseTicks (hereOf p .function)) .1 (s .pause left e)
   work-test Waiting e = ap isWait (s .wait e)
 

@@ -12,6 +12,7 @@ use Rattle.decimal.specs.Read.{readOf}
 use Rattle.decimal.specs.declared.input.Reading.the-variants.{Number}
 use Rattle.drive.specs.Rates.{hourly}
 use Rattle.drive.specs.Syringe.{threshold, target}
+use Rattle.drive.specs.declared.syringe.Syringe.{Syringe}
 use Rattle.words.specs.Functions.{pauseTicks}
 use Rattle.words.specs.declared.functions.Function.{Function}
 use Rattle.words.specs.declared.functions.Function.the-variants as f
@@ -105,16 +106,16 @@ pub record Ranges (p : Pump) : Type 0 where
   pub line : LineFacts (p .device .line)
 
 -- above 0, and at most four thresholds
-abbrev pub Usable : ℕ → Rate → Type 0
-Usable d NoRate = ⊥
-Usable d (Current unit r) = (0 < r) × (hourly r unit ≤ 4 * threshold d)
+abbrev pub Usable : Syringe → Rate → Type 0
+Usable y NoRate = ⊥
+Usable y (Current unit r) = (0 < r) × (hourly r unit ≤ 4 * threshold y)
 
-pub record VisitFacts (d : ℕ) (here : Phase) (rate : Rate) (v : Visit) : Type 0 where
-  pub store-below : v .store < threshold d
-  pub aimed : v .target ≡ target d (here .volume)
+pub record VisitFacts (y : Syringe) (here : Phase) (rate : Rate) (v : Visit) : Type 0 where
+  pub store-below : v .store < threshold y
+  pub aimed : v .target ≡ target y (here .volume)
   pub given-below : (here .volume ≡ 0 → ⊥) → v .given < v .target
   pub none-counted : here .volume ≡ 0 → v .given ≡ 0
-  pub usable : Usable d rate
+  pub usable : Usable y rate
   pub in-rate-phase : (here .function ≡ f.Rat) ⊎ (here .function ≡ f.Inc) ⊎ (here .function ≡ f.Dec)
 
 -- none of the three, and no trap, loop or current rate
@@ -134,7 +135,7 @@ pub record Sound (p : Pump) : Type 0 where
   pub different-phases :
       (i j : ℕ) → i < j → j < length (loopsOf p) → getD (loopsOf p) i noLoop .begun ≡ getD (loopsOf p) j noLoop .begun → ⊥
   -- a visit's store, target, steps given, rate and phase
-  pub visit : (v : Visit) → underWay p ≡ Visiting v → VisitFacts (coreOf p .syringe .diameter) (hereOf p) (runOf p .rate) v
+  pub visit : (v : Visit) → underWay p ≡ Visiting v → VisitFacts (coreOf p .syringe) (hereOf p) (runOf p .rate) v
   -- an open loop has at most 98 passes
   pub passes-few : (i : ℕ) → i < length (loopsOf p) → getD (loopsOf p) i noLoop .passes ≤ 98
   -- a timed pause has 1 to the full number of ticks of its PAS phase left; a trigger wait stands in PAS 0

@@ -5,6 +5,7 @@ use crate::numbers::whole;
 use crate::show;
 use decimal::Reading;
 use drive::RateUnit;
+use drive::Syringe;
 use libc::STDOUT_FILENO;
 
 // Every line of `s`.
@@ -82,11 +83,11 @@ fn printed(x: u32) {
 fn drive_figures(s: &[u8]) {
     let x = whole(s);
     if drive::is_diameter(x) {
-        let d = narrow(x);
-        io::print_decimal(STDOUT_FILENO, drive::step_volume(d));
+        let y = syringe(x);
+        io::print_decimal(STDOUT_FILENO, y.step_volume());
         io::write_all(STDOUT_FILENO, b" ");
-        io::print_decimal(STDOUT_FILENO, drive::step_threshold(d));
-        show::volume_unit(drive::volume_unit(d));
+        io::print_decimal(STDOUT_FILENO, y.step_threshold());
+        show::volume_unit(y.volume_unit());
     } else {
         io::write_all(STDOUT_FILENO, b"?OOR");
     }
@@ -95,25 +96,27 @@ fn drive_figures(s: &[u8]) {
 // V micrometres, a blank, a volume in thousandths: the step target.
 fn volume(s: &[u8]) {
     let end = until(s, 0, b' ');
-    let d = narrow(whole(&s[..end]));
+    let y = syringe(whole(&s[..end]));
     let next = behind(s, end);
-    io::print_decimal(STDOUT_FILENO, drive::step_target(d, whole(&s[next..])));
+    io::print_decimal(STDOUT_FILENO, y.step_target(whole(&s[next..])));
 }
 
 // R micrometres, a blank, a rate in thousandths of MH: whether it is usable, and its fl an hour.
 fn rate(s: &[u8]) {
     let end = until(s, 0, b' ');
-    let d = narrow(whole(&s[..end]));
+    let y = syringe(whole(&s[..end]));
     let next = behind(s, end);
     let x = whole(&s[next..]);
     if x <= decimal::MOST {
         io::print_decimal(STDOUT_FILENO, drive::hourly_rate(x, RateUnit::Mh));
     }
-    if drive::is_usable(d, x, RateUnit::Mh) {
+    if y.is_usable(x, RateUnit::Mh) {
         io::write_all(STDOUT_FILENO, b" usable");
     }
 }
 
-fn narrow(x: u32) -> u16 {
-    (x % 65_536) as u16
+fn syringe(x: u32) -> Syringe {
+    Syringe {
+        diameter: (x % 65_536) as u16,
+    }
 }

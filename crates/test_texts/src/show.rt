@@ -54,7 +54,7 @@ fn echo(c: Command) -> Reply {
             Units::Given(unit) => Reply::Rate(x, unit),
         },
         Command::AskVolume => Reply::Status,
-        Command::SetVolume(x) => Reply::Volume(x, drive::volume_unit(10_000)),
+        Command::SetVolume(x) => Reply::Volume(x, VolumeUnit::Microlitre),
         Command::AskDirection => Reply::Status,
         Command::SetDirection(d) => Reply::Direction(d),
         Command::Reverse => Reply::Status,
@@ -70,7 +70,7 @@ fn echo(c: Command) -> Reply {
         Command::Run => Reply::Status,
         Command::RunFrom(n) => Reply::Phase(n),
         Command::Stop => Reply::Status,
-        Command::AskDispensed => Reply::Totals(0, 0, drive::volume_unit(10_000)),
+        Command::AskDispensed => Reply::Totals(0, 0, VolumeUnit::Microlitre),
         Command::Clear(d) => Reply::Direction(d),
         Command::Reset => Reply::Status,
     }

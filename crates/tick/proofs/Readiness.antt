@@ -15,6 +15,7 @@ use Rattle.drive.specs.declared.directions.Direction.{Direction}
 use Rattle.drive.specs.declared.directions.Direction.the-variants.{Infuse, Withdraw}
 use Rattle.drive.proofs.Bounds.{threshold-le}
 use Rattle.drive.proofs.Theorems.{usable-iff}
+use Rattle.drive.specs.declared.syringe.Syringe.{Syringe}
 use Rattle.words.specs.declared.phases.Phase.{Phase}
 use Rattle.loops.proofs.Kept.{turning}
 use Rattle.dispense.specs.Ledgers.{mostTotal, totalOf, isSoundLedger}
@@ -36,14 +37,14 @@ unfolding isSoundLedger
 total-le l Infuse h = leb-true _ _ (and-left (leb (l .totals .infused) mostTotal) (leb (l .totals .withdrawn) mostTotal) h)
 total-le l Withdraw h = leb-true _ _ (and-right (leb (l .totals .infused) mostTotal) (leb (l .totals .withdrawn) mostTotal) h)
 
-visit-tests : (d : ℕ) (p : Phase) (rate : Rate) (v : Visit) → isSoundVisit d p rate v ≡ true → Each (visitTests d p rate v)
+visit-tests : (d : Syringe) (p : Phase) (rate : Rate) (v : Visit) → isSoundVisit d p rate v ≡ true → Each (visitTests d p rate v)
 unfolding isSoundVisit
 visit-tests d p rate v h = each (visitTests d p rate v) h
 
 -- ---- a sound visit at its rate
 visit-works :
-    (d : ℕ) (p : Phase) (r : ℕ) (unit : RateUnit) (v : Visit)
-    → d ≤ mostDiameter
+    (d : Syringe) (p : Phase) (r : ℕ) (unit : RateUnit) (v : Visit)
+    → d .diameter ≤ mostDiameter
     → isSoundVisit d p (Current unit r) v ≡ true
     → Working v (hourly r unit) (threshold d)
 visit-works d p r unit v hd h =
@@ -83,9 +84,9 @@ module _ (phases : ℕ) (s : Core) (p : Phase) (ready : Ready phases s p) where
       leb-true _ _ (and-right (leb leastDiameter (s .syringe .diameter)) (leb (s .syringe .diameter) mostDiameter) (core .in-range))
 
   pub ready-visit :
-      (v : Visit) → s .run .place .work ≡ Visiting v → AtRate (s .run) (s .ledger) (s .syringe .diameter) (p .direction) v
+      (v : Visit) → s .run .place .work ≡ Visiting v → AtRate (s .run) (s .ledger) (s .syringe) (p .direction) v
   ready-visit v e =
-      let d = s .syringe .diameter in
+      let d = s .syringe in
       let sound = sym (ap (isSoundWork d p (s .run .rate)) e) ∙ core .work-sound in
       record {
         small = run .rate-most;

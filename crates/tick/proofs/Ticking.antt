@@ -4,6 +4,7 @@ use Prim.Native.Nat.{ℕ}
 use mathlib.Core.Path.{_≡_, refl, sym, ap, _∙_}
 use mathlib.Core.Bool.{true, false}
 use Rattle.base.proofs.Choices.{false-true}
+use Rattle.drive.specs.declared.syringe.Syringe.{Syringe}
 use Rattle.words.specs.Functions.{pauseTicks}
 use Rattle.words.specs.declared.functions.Function.{Function}
 use Rattle.words.specs.declared.phases.Phase.{Phase}
@@ -23,7 +24,7 @@ use Rattle.tick.specs.Working.{workVisit, workPause}
 use Rattle.tick.specs.declared.Moved.{Moved}
 use Rattle.tick.specs.declared.working.Given.{Given}
 
-module _ (r : Run) (pins : Pins) (d : ℕ) (p : Phase) (x : Run) (g : Function) (e : p .function ≡ g) where
+module _ (r : Run) (pins : Pins) (d : Syringe) (p : Phase) (x : Run) (g : Function) (e : p .function ≡ g) where
   pub enters-by : x ≡ enterBy r pins d p g → x ≡ enter r pins d p
   unfolding enter
   enters-by q = q ∙ ap (enterBy r pins d p) (sym e)
@@ -64,7 +65,7 @@ module _ (s : Core) (p : Phase) where
         (v : Visit) (g : Given)
         → isOperating (s .run) ≡ true
         → s .run .place .work ≡ Visiting v
-        → g ≡ workVisit (s .run) (s .ledger) (s .syringe .diameter) (p .direction) v
+        → g ≡ workVisit (s .run) (s .ledger) (s .syringe) (p .direction) v
         → x ≡ worked s (p .direction) g
         → x ≡ tickOf s p
     ticks-visit v g h k e q = ticks-on (Visiting v) h k (q ∙ ap (worked s (p .direction)) e)

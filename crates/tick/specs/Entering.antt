@@ -4,6 +4,7 @@ use mathlib.Core.Bool.{Bool, _&&_}
 use lib.Dec.{ltb, eqb}
 use Rattle.base.specs.If.{if_then_else_}
 use Rattle.drive.specs.Syringe.{target}
+use Rattle.drive.specs.declared.syringe.Syringe.{Syringe}
 use Rattle.words.specs.Functions.{pauseTicks}
 use Rattle.words.specs.declared.answers.Alarm.the-variants.{Program}
 use Rattle.words.specs.declared.functions.Function.{Function}
@@ -23,15 +24,15 @@ use Rattle.program.specs.declared.state.Trap.the-variants.{NoTrap, Armed}
 use Rattle.program.specs.declared.state.Work.the-variants.{Visiting, Pausing, Waiting}
 
 -- time store 0, the step target from the volume; a volume above 0 with target 0 ends at entry
-unfoldable pub beginVisit : Run → ℕ → Phase → Run
-beginVisit r d p =
-    if ltb 0 (p .volume) && eqb (target d (p .volume)) 0
+unfoldable pub beginVisit : Run → Syringe → Phase → Run
+beginVisit r y p =
+    if ltb 0 (p .volume) && eqb (target y (p .volume)) 0
     then goOn r
-    else doing r (Visiting (record { given = 0; target = target d (p .volume); store = 0 }))
+    else doing r (Visiting (record { given = 0; target = target y (p .volume); store = 0 }))
 
 -- no rate, or one that is not usable, is alarm E
-unfoldable pub enterRate : Run → ℕ → Phase → Rate → Run
-enterRate r d p rate = if isUsableRate d rate then beginVisit (withRate r rate) d p else raise r Program
+unfoldable pub enterRate : Run → Syringe → Phase → Rate → Run
+enterRate r y p rate = if isUsableRate y rate then beginVisit (withRate r rate) y p else raise r Program
 
 -- PAS: 0 ticks is the trigger wait; both drop the current rate
 unfoldable pub enterPause : Run → ℕ → Run
@@ -68,25 +69,25 @@ unfoldable pub clearTrap : Run → Run
 clearTrap r = goOn (withTrap r NoTrap)
 
 -- each function; what BEP and OUT do beside is the tick's
-abbrev pub enterBy : Run → Pins → ℕ → Phase → Function → Run
-enterBy r pins d p f.Rat = enterRate r d p (Current (p .unit) (p .rate))
-enterBy r pins d p f.Inc = enterRate r d p (increase (r .rate) (p .rate))
-enterBy r pins d p f.Dec = enterRate r d p (decrease (r .rate) (p .rate))
-enterBy r pins d p f.Stp = stop r
-enterBy r pins d p (f.Jmp n) = goTo r n
-enterBy r pins d p (f.Lop n) = passLoop r n
-enterBy r pins d p f.Lps = startLoop r
-enterBy r pins d p f.Lpe = endLoop r
-enterBy r pins d p (f.Pas n) = enterPause r (pauseTicks (f.Pas n))
-enterBy r pins d p (f.Tenths n) = enterPause r (pauseTicks (f.Tenths n))
-enterBy r pins d p (f.If n) = jumpIf r (pins .six) n
-enterBy r pins d p (f.Evn n) = armTrap r (pins .four) n
-enterBy r pins d p f.Evr = clearTrap r
-enterBy r pins d p f.Bep = goOn r
-enterBy r pins d p (f.Out level) = goOn r
+abbrev pub enterBy : Run → Pins → Syringe → Phase → Function → Run
+enterBy r pins y p f.Rat = enterRate r y p (Current (p .unit) (p .rate))
+enterBy r pins y p f.Inc = enterRate r y p (increase (r .rate) (p .rate))
+enterBy r pins y p f.Dec = enterRate r y p (decrease (r .rate) (p .rate))
+enterBy r pins y p f.Stp = stop r
+enterBy r pins y p (f.Jmp n) = goTo r n
+enterBy r pins y p (f.Lop n) = passLoop r n
+enterBy r pins y p f.Lps = startLoop r
+enterBy r pins y p f.Lpe = endLoop r
+enterBy r pins y p (f.Pas n) = enterPause r (pauseTicks (f.Pas n))
+enterBy r pins y p (f.Tenths n) = enterPause r (pauseTicks (f.Tenths n))
+enterBy r pins y p (f.If n) = jumpIf r (pins .six) n
+enterBy r pins y p (f.Evn n) = armTrap r (pins .four) n
+enterBy r pins y p f.Evr = clearTrap r
+enterBy r pins y p f.Bep = goOn r
+enterBy r pins y p (f.Out level) = goOn r
 
-unfoldable pub enter : Run → Pins → ℕ → Phase → Run
-enter r pins d p = enterBy r pins d p (p .function)
+unfoldable pub enter : Run → Pins → Syringe → Phase → Run
+enter r pins y p = enterBy r pins y p (p .function)
 
 -- ---- what the code of entering may rely on
 pub record Enterable (r : Run) : Type 0 where

@@ -34,7 +34,7 @@ outputAfter g output = if isOut g then ltb 0 (datum g) else output
 unfoldable pub entered : Core → Phase → Moved
 entered s p =
     record {
-      core = withOutput (withRun s (enter (s .run) (s .pins) (s .syringe .diameter) p)) (outputAfter (p .function) (s .output));
+      core = withOutput (withRun s (enter (s .run) (s .pins) (s .syringe) p)) (outputAfter (p .function) (s .output));
       infused = 0;
       withdrawn = 0;
       beep = isBeep (p .function);
@@ -51,7 +51,7 @@ worked s way g = steps (withLedger (withRun s (g .run)) (g .ledger)) way (g .ste
 -- a running program: enter, or work; a trigger wait stays
 abbrev pub workBy : Core → Phase → Work → Moved
 workBy s p Entering = entered s p
-workBy s p (Visiting v) = worked s (p .direction) (workVisit (s .run) (s .ledger) (s .syringe .diameter) (p .direction) v)
+workBy s p (Visiting v) = worked s (p .direction) (workVisit (s .run) (s .ledger) (s .syringe) (p .direction) v)
 workBy s p (Pausing left) = silent (withRun s (workPause (s .run) left))
 workBy s p Waiting = silent s
 

@@ -7,6 +7,7 @@ ghost use Rattle.tick.specs.Entering.{Enterable, enter};
 ghost use Rattle.loops.specs.Loops.{Turning};
 use dispense::Rate;
 use dispense::Visit;
+use drive::Syringe;
 use program::Pins;
 use program::Run;
 use program::Trap;
@@ -16,9 +17,9 @@ use words::Function;
 use words::Phase;
 
 // RAT, INC and DEC meet in one call, so that the compiler takes it in here and keeps the run in registers.
-pub fn enter(run: Run, pins: Pins, d: u16, here: Phase) -> Run
+pub fn enter(run: Run, pins: Pins, syringe: Syringe, here: Phase) -> Run
     requires { ⌜ Enterable run ⌝ }
-    ensures { λ r. ⌜ r ≡ enter run pins d here ⌝ }
+    ensures { λ r. ⌜ r ≡ enter run pins syringe here ⌝ }
 {
     let function = here.function;
     let unit = here.unit;
@@ -40,26 +41,26 @@ pub fn enter(run: Run, pins: Pins, d: u16, here: Phase) -> Run
         Function::Bep => return run.go_on(),
         Function::Out(_) => return run.go_on(),
     };
-    enter_rate(run, d, here, rate)
+    enter_rate(run, syringe, here, rate)
 }
 
 // RAT, INC and DEC, with the rate that is to be the current one.
-fn enter_rate(run: Run, d: u16, here: Phase, rate: Rate) -> Run
+fn enter_rate(run: Run, syringe: Syringe, here: Phase, rate: Rate) -> Run
     requires { ⌜ run .place .current ≤ 100 ⌝ }
-    ensures { λ r. ⌜ r ≡ enterRate run d here rate ⌝ }
+    ensures { λ r. ⌜ r ≡ enterRate run syringe here rate ⌝ }
 {
-    if rate.is_usable(d) {
-        return begin_visit(run.with_rate(rate), d, here);
+    if rate.is_usable(syringe) {
+        return begin_visit(run.with_rate(rate), syringe, here);
     }
     run.raise(Alarm::Program)
 }
 
 // A visit under way from here, or one that ends at entry: a volume too small for a step.
-fn begin_visit(run: Run, d: u16, here: Phase) -> Run
+fn begin_visit(run: Run, syringe: Syringe, here: Phase) -> Run
     requires { ⌜ run .place .current ≤ 100 ⌝ }
-    ensures { λ r. ⌜ r ≡ beginVisit run d here ⌝ }
+    ensures { λ r. ⌜ r ≡ beginVisit run syringe here ⌝ }
 {
-    let target = drive::step_target(d, here.volume);
+    let target = syringe.step_target(here.volume);
     if (0 < here.volume) & (target == 0) {
         return run.go_on();
     }

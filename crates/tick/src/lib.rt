@@ -44,13 +44,7 @@ pub fn tick(core: Core, here: Phase, phases: u8) -> Moved
         Work::Visiting(visit) => worked(
             core,
             direction,
-            work_visit(
-                core.run,
-                core.ledger,
-                core.syringe.diameter,
-                direction,
-                visit,
-            ),
+            work_visit(core.run, core.ledger, core.syringe, direction, visit),
         ),
         Work::Pausing(left) => silent(core.with_run(work_pause(core.run, left))),
         Work::Waiting => silent(core),
@@ -63,7 +57,7 @@ fn entered(mut core: Core, here: Phase) -> Moved
     ensures { λ r. ⌜ r ≡ entered core here ⌝ }
 {
     let function = here.function;
-    let after = enter(core.run, core.pins, core.syringe.diameter, here);
+    let after = enter(core.run, core.pins, core.syringe, here);
     let output = output_after(function, core.output);
     core.run = after;
     core.output = output;

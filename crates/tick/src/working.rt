@@ -6,6 +6,7 @@ use dispense::Ledger;
 use dispense::Rate;
 use dispense::Visit;
 use drive::Direction;
+use drive::Syringe;
 use program::Run;
 use program::Work;
 use words::Alarm;
@@ -18,9 +19,15 @@ pub struct Given {
 }
 
 // A working tick of a visit, at the current rate; a sound visit has one.
-pub fn work_visit(run: Run, ledger: Ledger, d: u16, direction: Direction, visit: Visit) -> Given
-    requires { ⌜ AtRate run ledger d direction visit ⌝ }
-    ensures { λ r. ⌜ r ≡ workVisit run ledger d direction visit ⌝ }
+pub fn work_visit(
+    run: Run,
+    ledger: Ledger,
+    syringe: Syringe,
+    direction: Direction,
+    visit: Visit,
+) -> Given
+    requires { ⌜ AtRate run ledger syringe direction visit ⌝ }
+    ensures { λ r. ⌜ r ≡ workVisit run ledger syringe direction visit ⌝ }
 {
     let rate = run.rate;
     match rate {
@@ -32,7 +39,7 @@ pub fn work_visit(run: Run, ledger: Ledger, d: u16, direction: Direction, visit:
         Rate::Current(unit, x) => give_steps(
             run,
             ledger,
-            d,
+            syringe,
             direction,
             visit,
             drive::hourly_rate(x, unit),
@@ -44,16 +51,16 @@ pub fn work_visit(run: Run, ledger: Ledger, d: u16, direction: Direction, visit:
 fn give_steps(
     run: Run,
     ledger: Ledger,
-    d: u16,
+    syringe: Syringe,
     direction: Direction,
     visit: Visit,
     hourly: u64,
 ) -> Given
-    requires { ⌜ Giving run ledger d direction visit hourly ⌝ }
-    ensures { λ r. ⌜ r ≡ giveSteps run ledger d direction visit hourly ⌝ }
+    requires { ⌜ Giving run ledger syringe direction visit hourly ⌝ }
+    ensures { λ r. ⌜ r ≡ giveSteps run ledger syringe direction visit hourly ⌝ }
 {
-    let worked = visit.work(hourly, drive::step_threshold(d));
-    let dose = worked.steps * drive::step_volume(d);
+    let worked = visit.work(hourly, syringe.step_threshold());
+    let dose = worked.steps * syringe.step_volume();
     if ledger.total_of(direction) + dose <= dispense::MOST_TOTAL {
         return Given {
             run: after_visit(run, worked.visit),

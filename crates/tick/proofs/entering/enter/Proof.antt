@@ -47,7 +47,7 @@ returns-12 c = search entering
 returns-13 : tie.Need-returns-13
 returns-13 c =
     let a = c .before .before .args in
-    let by-rate = enterRate (a .run) (a .d) (a .here) in
+    let by-rate = enterRate (a .run) (a .syringe) (a .here) in
     ⊎-elim
     (λ w. enters-by _ _ _ _ _ _ (w .1 .given .1) (c .enter-rate .ensures ∙ ap by-rate (w .2)))
     (⊎-elim

@@ -11,14 +11,14 @@ use Rattle.tick.proofs.working.give_steps.Tie as tie
 steps-le : (w : tie.After-work) → w .work .result .steps ≤ 4
 steps-le w =
     let s = w .before .before in
-    steps-small (s .args .run) (s .args .ledger) (s .args .d) (s .args .direction) (s .args .visit) (s .args .hourly) _ _ 0 0
+    steps-small (s .args .run) (s .args .ledger) (s .args .syringe) (s .args .direction) (s .args .visit) (s .args .hourly) _ _ 0 0
     (w .before .step-threshold .ensures) (w .work .ensures) (s .pre .works)
 
 dose-le : (v : tie.After-step-volume) → v .before .work .result .steps * v .step-volume .result ≤ 1_963_500_000
 dose-le v =
     let w = v .before in
     let s = w .before .before in
-    dose-small (s .args .run) (s .args .ledger) (s .args .d) (s .args .direction) (s .args .visit) (s .args .hourly) _ _ _ 0
+    dose-small (s .args .run) (s .args .ledger) (s .args .syringe) (s .args .direction) (s .args .visit) (s .args .hourly) _ _ _ 0
     (w .before .step-threshold .ensures) (w .work .ensures) (v .step-volume .ensures) (s .pre .high) (s .pre .works)
 
 mul-dose : tie.Need-mul-dose
@@ -38,7 +38,7 @@ returns c =
     let v = k .before .before .before in
     let w = v .before in
     let a = w .before .before .args in
-    gives (a .run) (a .ledger) (a .d) (a .direction) (a .visit) (a .hourly) _ _ _ _ (w .before .step-threshold .ensures)
+    gives (a .run) (a .ledger) (a .syringe) (a .direction) (a .visit) (a .hourly) _ _ _ _ (w .before .step-threshold .ensures)
     (w .work .ensures) (v .step-volume .ensures) (k .before .total-of .ensures) _ _ (k .if1 .taken)
     (c .before .before .after-visit .ensures) (c .before .book .ensures)
 
@@ -48,7 +48,7 @@ returns-2 c =
     let v = k .before .before .before in
     let w = v .before in
     let a = w .before .before .args in
-    gives-none (a .run) (a .ledger) (a .d) (a .direction) (a .visit) (a .hourly) _ _ _ _ (w .before .step-threshold .ensures)
+    gives-none (a .run) (a .ledger) (a .syringe) (a .direction) (a .visit) (a .hourly) _ _ _ _ (w .before .step-threshold .ensures)
     (w .work .ensures) (v .step-volume .ensures) (k .before .total-of .ensures) _ (k .if1 .left) (c .raise .ensures)
 
 pub give-steps-spec : {M : Type 1} → statement M

@@ -18,7 +18,7 @@ returns : tie.Need-returns
 unfolding workVisit
 returns c =
     let a = c .before .before .args in
-    ap (workAt (a .run) (a .ledger) (a .d) (a .direction) (a .visit)) (sym (c .enum-told .given .1))
+    ap (workAt (a .run) (a .ledger) (a .syringe) (a .direction) (a .visit)) (sym (c .enum-told .given .1))
 
 returns-2 : tie.Need-returns-2
 unfolding workVisit
@@ -26,7 +26,7 @@ returns-2 c =
     let k = c .before .before .before in
     let a = k .before .before .args in
     rw (c .give-steps .ensures, c .before .hourly-rate .ensures)
-    (ap (workAt (a .run) (a .ledger) (a .d) (a .direction) (a .visit)) (sym (k .rate .given .1)))
+    (ap (workAt (a .run) (a .ledger) (a .syringe) (a .direction) (a .visit)) (sym (k .rate .given .1)))
 
 pub work-visit-spec : {M : Type 1} → statement M
 work-visit-spec =

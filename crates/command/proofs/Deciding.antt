@@ -58,19 +58,19 @@ never-accepted s a b x false h = simp (lt-leb x mostDiameter h, and-false (leb l
 
 module _
     (s t after : Core) (x : ℕ) (u : Bool) (k : Verdict) (r : Obeyed)
-    (e : t ≡ o.settle s) (p : u ≡ isOperating (s .run)) (q : k ≡ judgeDiameter u x) (d : r ≡ o.decide s after Keep k)
+    (e : t ≡ withRun s (o.settle (s .run))) (p : u ≡ isOperating (s .run)) (q : k ≡ judgeDiameter u x) (d : r ≡ o.decide s after Keep k)
   where
     pub diameter-set : (after ≡ withSyringe t (record { diameter = x })) ⊎ (mostDiameter < x) → r ≡ o.setDiameter s x
     unfolding o.setDiameter
     diameter-set (inl a) = rw (d, a, q, p, e)
     diameter-set (inr h) =
-        rw (d, q, p) (never-accepted s after (withSyringe (o.settle s) (record { diameter = x })) x (isOperating (s .run)) h)
+        rw (d, q, p) (never-accepted s after (withSyringe (withRun s (o.settle (s .run))) (record { diameter = x })) x (isOperating (s .run)) h)
 
 -- ---- by the mode, the rate, the verdict, the command
 pub settles-by :
-    (s : Core) (m : Mode) (r : Core) → s .run .mode ≡ m → r ≡ withRun s (o.settleBy (s .run) m) → r ≡ o.settle s
+    (r : Run) (m : Mode) (x : Run) → r .mode ≡ m → x ≡ o.settleBy r m → x ≡ o.settle r
 unfolding o.settle
-settles-by s m r e q = q ∙ ap (λ (k : Mode). withRun s (o.settleBy (s .run) k)) (sym e)
+settles-by r m x e q = q ∙ ap (o.settleBy r) (sym e)
 
 -- `settle` asks for a pause alone
 pub unpaused : (r : Run) (m : Mode) → OneOf (0 ∷ 2 ∷ []) (tagOf the-type m) → r ≡ o.settleBy r m

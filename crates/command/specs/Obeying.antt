@@ -51,12 +51,12 @@ settleBy r (Stopped alarm) = r
 settleBy r Paused = stop r
 settleBy r Running = r
 
-unfoldable pub settle : Core → Core
-settle s = withRun s (settleBy (s .run) (s .run .mode))
+unfoldable pub settle : Run → Run
+settle r = settleBy r (r .mode)
 
 -- VOL, DIR and FUN: the phase in hand as the setting makes it
 abbrev pub setPhaseTo : Core → Phase → Verdict → Obeyed
-setPhaseTo s p verdict = decide s (settle s) (Write p) verdict
+setPhaseTo s p verdict = decide s (withRun s (settle (s .run))) (Write p) verdict
 
 abbrev pub setVolume : Core → Phase → ℕ → Obeyed
 setVolume s p x = setPhaseTo s (withVolume p x) (judging.judgeVolume (isOperating (s .run)) p)
@@ -70,7 +70,7 @@ setFunction s p g phases = setPhaseTo s (withFunction p g) (judging.judgeFunctio
 -- ---- DIA zeroes nothing
 unfoldable pub setDiameter : Core → ℕ → Obeyed
 setDiameter s x =
-    decide s (withSyringe (settle s) (record { diameter = x })) Keep (judging.judgeDiameter (isOperating (s .run)) x)
+    decide s (withSyringe (withRun s (settle (s .run))) (record { diameter = x })) Keep (judging.judgeDiameter (isOperating (s .run)) x)
 
 -- ---- RAT: while operating it alters the current rate alone, in its units; the time store and the stored rate stay
 abbrev pub tuneBy : Run → ℕ → Rate → Run

@@ -122,22 +122,26 @@ fn decide(core: Core, after: Core, edit: Edit, verdict: Verdict) -> Obeyed
 }
 
 // An accepted setting makes a paused pump a stopped one.
-fn settle(core: Core) -> Core
-    ensures { λ r. ⌜ r ≡ settle core ⌝ }
+fn settle(run: Run) -> Run
+    ensures { λ r. ⌜ r ≡ settle run ⌝ }
 {
-    let run = core.run;
     let mode = run.mode;
     if let Mode::Paused = mode {
-        return core.with_run(run.stop());
+        return run.stop();
     }
-    core
+    run
 }
 
 // VOL, DIR and FUN: the phase in hand as the setting makes it.
 fn set_phase_to(core: Core, phase: Phase, verdict: Verdict) -> Obeyed
     ensures { λ r. ⌜ r ≡ setPhaseTo core phase verdict ⌝ }
 {
-    decide(core, settle(core), Edit::Write(phase), verdict)
+    decide(
+        core,
+        core.with_run(settle(core.run)),
+        Edit::Write(phase),
+        verdict,
+    )
 }
 
 // VOL
@@ -169,7 +173,7 @@ fn set_diameter(core: Core, x: u32) -> Obeyed
     ensures { λ r. ⌜ r ≡ setDiameter core x ⌝ }
 {
     let verdict = judge_diameter(core.run.is_operating(), x);
-    let mut after = settle(core);
+    let mut after = core.with_run(settle(core.run));
     if x <= drive::MOST_DIAMETER as u32 {
         let d = x as u16;
         after.syringe.diameter = d;

@@ -95,7 +95,7 @@ module _ (s : Core) (p : Phase) where
     -- a setting that leaves the volume
     sets : (q : Phase) (v : Verdict) → q .volume ≡ p .volume → Deed command (setPhaseTo s q v)
     unfolding settle
-    sets q v h = decides (settle s) (Write q) v refl (λ _ _. goes-on (turns-settle (s .run)) refl h)
+    sets q v h = decides (withRun s (settle (s .run))) (Write q) v refl (λ _ _. goes-on (turns-settle (s .run)) refl h)
 
   -- ---- DIA and VOL, which are not accepted while operating
   idle-by : (t : Bool) (v : Verdict) → (if t then NotApplicable else v) ≡ Accepted → t ≡ false
@@ -108,7 +108,7 @@ module _ (s : Core) (p : Phase) where
   diameter-deed : (x : ℕ) → Deed (c.SetDiameter x) (setDiameter s x)
   unfolding setDiameter settle judgeDiameter
   diameter-deed x =
-      decides (omega arith) (withSyringe (settle s) (record { diameter = x })) Keep _ refl
+      decides (omega arith) (withSyringe (withRun s (settle (s .run))) (record { diameter = x })) Keep _ refl
       (λ e calm. ends (settle-drops (s .run) calm (idle-by (isOperating (s .run)) (ifInRange (diameter x)) e)))
 
   volume-idle : (t u : Bool) → (if t && not u then Accepted else NotApplicable) ≡ Accepted → u ≡ false
@@ -119,7 +119,7 @@ module _ (s : Core) (p : Phase) where
   volume-deed : (x : ℕ) → Deed (c.SetVolume x) (setPhaseTo s (withVolume p x) (judgeVolume (isOperating (s .run)) p))
   unfolding settle judgeVolume
   volume-deed x =
-      decides (omega arith) (settle s) (Write (withVolume p x)) _ refl
+      decides (omega arith) (withRun s (settle (s .run))) (Write (withVolume p x)) _ refl
       (λ e calm. ends (settle-drops (s .run) calm (volume-idle (isRatePhase (p .function)) (isOperating (s .run)) e)))
 
   -- ---- RAT

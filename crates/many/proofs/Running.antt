@@ -43,13 +43,12 @@ ran-none p sound =
       withdrawn-few = omega arith;
     }
 
-module _ {count : ℕ} (p : Pump) (full : phaseCount p ≡ count) (few : count ≤ 99) (core : Core) (a b i : ℕ)
+module _ (p : Pump) (few : phaseCount p ≤ 99) (core : Core) (a b i : ℕ)
     (ran : Ran p core a b i) (here : Phase) (h : here ≡ phaseAt (p .phases) (core .run .place .current)) where
-  pub ready : Ready count core here
+  pub ready : Ready core here
   ready =
       let q = withPumpCore p core in
-      rw (h, sym full)
-      (cores.ready (phaseCount q) (phaseAt (q .phases)) core (pump-core q (ran .sound)) (table-here q (omega (arith, full)) (ran .sound)))
+      rw h (cores.ready (phaseCount q) (phaseAt (q .phases)) core (pump-core q (ran .sound)) (table-here q few (ran .sound)))
 
   called : (m : Moved) → m ≡ tickOf core here → tickCall (withPumpCore p core) ≡ movedBy (withPumpCore p core) m Accepted
   called m k =
@@ -81,7 +80,7 @@ module _ {count : ℕ} (p : Pump) (full : phaseCount p ≡ count) (few : count �
       record {
         sound =
             subst (λ (r : Report). isSoundPump (r .pump) ≡ true) (called m k)
-            (tick-whole (withPumpCore p core) (omega (arith, full)) (ran .sound));
+            (tick-whole (withPumpCore p core) few (ran .sound));
         same = counted m k;
         infused-few = omega (arith, ran .infused-few);
         withdrawn-few = omega (arith, ran .withdrawn-few);

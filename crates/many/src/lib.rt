@@ -41,7 +41,7 @@ fn run(pump: Pump, n: u32) -> Ticked
     let mut i: u32 = 0;
     while i < n {
         let here = pump.phase_at(core.run.place.current);
-        let moved = tick::tick(core, here, Pump::PHASES);
+        let moved = tick::tick(core, here);
         core = moved.core;
         infused += moved.infused as u64;
         withdrawn += moved.withdrawn as u64;

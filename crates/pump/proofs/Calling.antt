@@ -41,8 +41,8 @@ use Rattle.pump.proofs.Kept.{pump-core, table-here}
 
 -- ---- what a sound pump lends to the rules
 module _ (p : Pump) (few : phaseCount p ≤ 99) (e : isSoundPump p ≡ true) where
-  ready : Ready (phaseCount p) (p .device .core) (hereOf p)
-  ready = record { few = few; core = pump-core p e; phase = table-here p few e .every (p .device .core .run .place .current) }
+  ready : Ready (p .device .core) (hereOf p)
+  ready = record { phases = phaseCount p; few = few; core = pump-core p e; phase = table-here p few e .every (p .device .core .run .place .current) }
 
   handy : Handy p
   handy =
@@ -72,9 +72,8 @@ tick-by p true s = sym (simp (sym s))
 tick-by p false s = sym (simp (sym s))
 
 module _ (p : Pump) (k : Checked) (c : k ≡ checked p) where
-  pub ready-checked : {count : ℕ} → phaseCount p ≡ count → count ≤ 99 → k .sound ≡ true → Ready count (p .device .core) (k .here)
-  ready-checked full few e =
-      rw (ap (λ x. x .here) c, sym full) (ready p (omega (arith, full)) (sym (ap (λ x. x .sound) c) ∙ e))
+  pub ready-checked : phaseCount p ≤ 99 → k .sound ≡ true → Ready (p .device .core) (k .here)
+  ready-checked few e = rw (ap (λ x. x .here) c) (ready p few (sym (ap (λ x. x .sound) c) ∙ e))
 
   pub tick-checked :
       (m : Moved) (refusal : Refusal) (r : Report)

@@ -20,7 +20,7 @@ impl Pump {
     {
         let checked = self.checked();
         let moved = if checked.sound {
-            tick::tick(self.device.core, checked.here, Pump::PHASES)
+            tick::tick(self.device.core, checked.here)
         } else {
             tick::silent(self.device.core)
         };

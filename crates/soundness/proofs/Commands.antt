@@ -98,7 +98,7 @@ module _ (phases : ℕ) (look : ℕ → Phase) (table : Table phases look) (s : 
 
   -- ---- another phase in hand, not operating: VOL, FUN, the stored rate, DIR
   write-well :
-      isOperating (s .run) ≡ false → (p : Phase) → isSoundPhase phases p ≡ true → WellBy phases look s (settle s) (Write p)
+      isOperating (s .run) ≡ false → (p : Phase) → isSoundPhase phases p ≡ true → WellBy phases look s (withRun s (settle (s .run))) (Write p)
   unfolding settle
   write-well rests p sound =
       let chosen : inHand s ≡ s .chosen = ap (λ (t : Bool). if t then s .run .place .current else s .chosen) rests in (
@@ -146,7 +146,7 @@ module _ (phases : ℕ) (look : ℕ → Phase) (table : Table phases look) (s : 
       decided _ Keep (judging.judgeTuning (s .run) (s .syringe) hand next x units)
       (λ e. tune-well x w op (s .run .rate) (by-then now _ NotApplicable refl e .1)))
       (λ rests.
-      decided (settle s) (Write _) (judging.judgeStored (s .syringe) hand x units)
+      decided (withRun s (settle (s .run))) (Write _) (judging.judgeStored (s .syringe) hand x units)
       (λ e. write-well rests _ (set.stored-sound phases hand (table .every (inHand s)) x _ w)))
 
   -- ---- VOL
@@ -154,7 +154,7 @@ module _ (phases : ℕ) (look : ℕ → Phase) (table : Table phases look) (s : 
       (x : ℕ) → writable x ≡ true → Well phases look s (setPhaseTo s (withVolume hand x) (judging.judgeVolume (isOperating (s .run)) hand))
   unfolding judging.judgeVolume
   set-volume-well x w =
-      decided (settle s) (Write _) (judging.judgeVolume (isOperating (s .run)) hand)
+      decided (withRun s (settle (s .run))) (Write _) (judging.judgeVolume (isOperating (s .run)) hand)
       (λ e.
       let both = by-then (isRatePhase (hand .function) && not (isOperating (s .run))) Accepted NotApplicable refl e in
       write-well (not-true (isOperating (s .run)) (and-right (isRatePhase (hand .function)) _ (both .0))) _
@@ -184,7 +184,7 @@ module _ (phases : ℕ) (look : ℕ → Phase) (table : Table phases look) (s : 
       (g : Function) → Well phases look s (setPhaseTo s (withFunction hand g) (judging.judgeFunction (isOperating (s .run)) g phases))
   unfolding judging.judgeFunction
   set-function-well g =
-      decided (settle s) (Write _) (judging.judgeFunction (isOperating (s .run)) g phases)
+      decided (withRun s (settle (s .run))) (Write _) (judging.judgeFunction (isOperating (s .run)) g phases)
       (λ e.
       let idle = by-else (isOperating (s .run)) NotApplicable _ refl e in
       let fit = by-then (fits phases g) Accepted OutOfRange refl (idle .1) .0 in
@@ -221,7 +221,7 @@ module _ (phases : ℕ) (look : ℕ → Phase) (table : Table phases look) (s : 
       (way : Direction) → Well phases look s (setPhaseTo s (withDirection hand way) (judging.judgeDirection (isOperating (s .run)) hand))
   unfolding settle judging.judgeDirection
   direction-well way =
-      decided (settle s) (Write _) (judging.judgeDirection (isOperating (s .run)) hand)
+      decided (withRun s (settle (s .run))) (Write _) (judging.judgeDirection (isOperating (s .run)) hand)
       (λ e.
       go (isOperating (s .run)) refl (isRatePhase (hand .function) && eqb (hand .volume) 0) refl
       (by-else _ NotApplicable Accepted refl e .0))
@@ -235,7 +235,7 @@ module _ (phases : ℕ) (look : ℕ → Phase) (table : Table phases look) (s : 
           → (u : Bool)
           → (isRatePhase (hand .function) && eqb (hand .volume) 0) ≡ u
           → (t && not u) ≡ false
-          → WellBy phases look s (settle s) (Write (withDirection hand way))
+          → WellBy phases look s (withRun s (settle (s .run))) (Write (withDirection hand way))
       go true op true k n = (
         sound,
         rate-within op (and-left (isRatePhase (hand .function)) (eqb (hand .volume) 0) k),

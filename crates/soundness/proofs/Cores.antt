@@ -58,8 +58,8 @@ module _ (phases : ℕ) (look : ℕ → Phase) (s : Core) (kept : Kept phases lo
   with-run-kept r k = given-sound r (s .ledger) (look (r .place .current)) (k .0) (k .1) (clauses .ledger-sound)
 
   -- what the code of a tick may rely on
-  pub ready : Table phases look → Ready phases s here
-  ready table = record { few = table .few; core = kept; phase = table .every (s .run .place .current) }
+  pub ready : Table phases look → Ready s here
+  ready table = record { phases = phases; few = table .few; core = kept; phase = table .every (s .run .place .current) }
 
 -- ---- no test mentions a pin or the output
 pub levels-kept :

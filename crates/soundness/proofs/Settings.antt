@@ -17,7 +17,7 @@ use Rattle.words.specs.declared.functions.Function.{Function}
 use Rattle.words.specs.declared.phases.Phase.{Phase}
 use Rattle.dispense.specs.declared.rates.Rate.{Rate}
 use Rattle.dispense.specs.declared.rates.Rate.the-variants.{Current}
-use Rattle.program.specs.Cores.{withSyringe}
+use Rattle.program.specs.Cores.{withRun, withSyringe}
 use Rattle.program.specs.Runs.{isEntering, isRunning, isOperating}
 use Rattle.program.specs.Sound.{visitTests, isSoundVisit, idleTests, isSoundMode, isSoundWork, isSoundRun, isSoundCore}
 use Rattle.program.specs.declared.state.Core.{Core}
@@ -102,7 +102,7 @@ pub settle-sound :
     → (y : Syringe) (p : Phase)
     → diameter (y .diameter) ≡ true
     → writable (y .diameter) ≡ true
-    → isSoundCore phases (withSyringe (settle s) y) p ≡ true
+    → isSoundCore phases (withSyringe (withRun s (settle (s .run))) y) p ≡ true
 unfolding settle
 settle-sound phases s here k rests y p e w =
     let u = run-clauses phases (s .run) (k .under-way) in

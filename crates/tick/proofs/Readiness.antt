@@ -61,7 +61,10 @@ visit-works d p r unit v hd h =
     }
 
 -- ---- what a tick's callees ask
-module _ (phases : ℕ) (s : Core) (p : Phase) (ready : Ready phases s p) where
+module _ (s : Core) (p : Phase) (ready : Ready s p) where
+  abbrev phases : ℕ
+  phases = ready .phases
+
   core : CoreClauses phases s p
   core = core-clauses phases s p (ready .core)
 

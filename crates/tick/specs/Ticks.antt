@@ -63,8 +63,9 @@ tickBy s p Running = workBy s p (s .run .place .work)
 unfoldable pub tickOf : Core → Phase → Moved
 tickOf s p = tickBy s p (s .run .mode)
 
--- ---- what the code of a tick may rely on
-pub record Ready (phases : ℕ) (s : Core) (here : Phase) : Type 0 where
+-- ---- what the code of a tick may rely on: it stands in a sound pump of some number of phases
+pub record Ready (s : Core) (here : Phase) : Type 0 where
+  pub phases : ℕ
   pub few : phases ≤ 99
   pub core : isSoundCore phases s here ≡ true
   pub phase : isSoundPhase phases here ≡ true

@@ -28,9 +28,9 @@ pub struct Moved {
     pub beep: bool,
 }
 
-// A tick, with the current phase in hand, in a pump of so many phases.
-pub fn tick(core: Core, here: Phase, phases: u8) -> Moved
-    requires { ⌜ Ready phases core here ⌝ }
+// A tick, with the current phase in hand.
+pub fn tick(core: Core, here: Phase) -> Moved
+    requires { ⌜ Ready core here ⌝ }
     ensures { λ r. ⌜ r ≡ tickOf core here ⌝ }
 {
     if !core.run.is_operating() {

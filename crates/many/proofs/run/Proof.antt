@@ -22,7 +22,7 @@ tick-requires c κs =
     let k = c .before .before .before .before .before in
     let turn = c .before .before .loop in
     let full = simp length-map at (k .good .0 .1 .1 .0 .1 .0 .1) in
-    ready (k .args .pump) full (omega arith) (turn .core) _ _ _ (turn .inv .1) _ (c .phase-at .ensures)
+    ready (k .args .pump) (omega (arith, full)) (turn .core) _ _ _ (turn .inv .1) _ (c .phase-at .ensures)
 
 add-withdrawn : tie.Need-add-withdrawn Inv-loop μ-loop
 add-withdrawn c =
@@ -51,7 +51,7 @@ loop-again c =
     let m = c .before .before .before .tick in
     let full = simp length-map at (k .good .0 .1 .1 .0 .1 .0 .1) in (
       omega arith,
-      ran-more (k .args .pump) full (omega arith) (turn .core) _ _ _ (turn .inv .1) _ (c .before .before .before .before .phase-at .ensures)
+      ran-more (k .args .pump) (omega (arith, full)) (turn .core) _ _ _ (turn .inv .1) _ (c .before .before .before .before .phase-at .ensures)
           (m .result) (m .ensures) (omega arith) (omega arith),
     )
 

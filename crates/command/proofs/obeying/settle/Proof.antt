@@ -1,7 +1,5 @@
 -- `settle` meets its contract.
 -- Assumes nothing.
-use mathlib.Core.Path.{ap}
-use Rattle.program.specs.Cores.{withRun}
 use Rattle.command.specs.Obeying.{settle}
 use Rattle.command.proofs.Deciding.{obeying, unpaused}
 use borrow.Author.Needs.{needs}
@@ -13,16 +11,8 @@ returns c = search obeying
 
 returns-2 : tie.Need-returns-2
 unfolding settle
-returns-2 c =
-    let core = c .before .before .args .core in
-    ap (withRun core) (unpaused (core .run) (core .run .mode) (c .match .keys2))
+returns-2 c = let run = c .before .args .run in unpaused run (run .mode) (c .match .keys2)
 
 pub settle-spec : {M : Type 1} → statement M
 settle-spec =
-    tie.close
-    (tie.spec
-    (λ c. search needs)
-    (λ c κs. tt)
-    (λ c κs. tt)
-    returns
-    returns-2)
+    tie.close (tie.spec (λ c. search needs) (λ c κs. tt) returns returns-2)

@@ -11,7 +11,7 @@ use Rattle.pump.proofs.holder.Pump.tick.Tie as tie
 tick-requires : tie.Need-tick-requires
 tick-requires c κs =
     let full = simp length-map at (c .before .before .good .0 .1 .1 .0 .1 .0 .1) in
-    ready-checked _ _ (c .before .checked .ensures) full (omega arith) (c .if1 .taken)
+    ready-checked _ _ (c .before .checked .ensures) (omega (arith, full)) (c .if1 .taken)
 
 returns : tie.Need-returns
 returns c =

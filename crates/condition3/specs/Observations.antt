@@ -1,5 +1,5 @@
 -- All that an observer of the calls writes down: what condition 3 (specs/Condition.antt) is said with. Each number is made from what was
--- called, answered and reported and from the rules; no stored total is looked at. In four parts:
+-- called, answered and reported, from the state before each call and from the rules; no stored total is looked at. In four parts:
 --     the event and the trace; clearing, and the volume of steps; visits; the steps that the rules give
 use Prim.Native.Nat.{ℕ, _+_, _-_, _*_, _/_, min}
 use mathlib.Core.Bool.{Bool, true, false, not, _&&_, _||_}

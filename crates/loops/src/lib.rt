@@ -18,7 +18,7 @@ const NO_LOOP: Loop = Loop {
     passes: 0,
 };
 
-// The newest open loop is the one at `count - 1`; the places behind it hold zeros.
+// The newest open loop is the one at `count - 1`; LPS, LOP and LPE leave zeros in the places behind it.
 pub struct Loops {
     pub slots: [Loop; 3],
     pub count: u8,

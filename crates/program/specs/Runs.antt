@@ -1,4 +1,4 @@
--- The program under way: its parts replaced, and what starting, stopping, pausing and moving on make of it.
+-- The program under way: its parts replaced, and what starting, stopping, pausing, moving on and firing make of it.
 -- (01, Ticks and phases: "Starting, stopping and alarms drop ..", "Pausing drops nothing"; Commands, STP and RUN)
 use Prim.Native.Nat.{ℕ, _+_}
 use mathlib.Core.Bool.{Bool, true, false, _&&_, not}

@@ -1,4 +1,4 @@
--- When the core is sound, clause by clause in document 01's order, for a number of phases and with the current phase in hand. By the
+-- When the core is sound, clause by clause, for a number of phases and with the current phase in hand. By the
 -- types of the state hold: at most one of visit, timed pause and trigger wait is under way; the store is 0 outside a visit; an alarm is
 -- pending only in a stopped pump.   (01, Calls)
 use Prim.Native.Nat.{ℕ, _+_, _≤_}

@@ -1,4 +1,4 @@
-// The program under way: its parts replaced, and what starting, stopping, pausing and moving on make of it.
+// The program under way: its parts replaced, and what starting, stopping, pausing, moving on and a firing trap make of it.
 ghost use mathlib.Core.Path.{_≡_};
 ghost use Prim.Native.Nat.{_≤_};
 ghost use Rattle.program.specs.Runs.{withPlace, withRate, withLoops, withTrap, withMode, freshAt, start, stop, raise, pause};

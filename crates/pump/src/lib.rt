@@ -2,7 +2,7 @@
 // four calls: a fresh state, a byte, a pin level and a tick. No call asks anything of its caller: whatever is handed in has its outcome,
 // and what a call refuses comes back as it was. The holder looks phases up, calls the device with them, and stores what comes back.
 //
-//   device    the core and the line; what a byte, a whole line, an edge do to them
+//   device    the core and the line; what a whole line and an edge do to them
 //   holder    the phases: the state, its constants, the phase of a number, and the edit that a command asks for
 //   checks    when the whole is sound
 //   reports   what every call hands back, and the refusals

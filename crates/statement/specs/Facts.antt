@@ -1,7 +1,7 @@
 -- When a state is sound, said without a test: the clauses of document 01's sentence, a fact each, in its order. That the test which the
--- calls run says just this is a theorem (proofs/Soundness.antt, sound-iff). Four clauses hold by the types of the state, and have no
--- field here: the store is 0 outside a visit, at most one of visit, timed pause and trigger wait is under way, each has its own data,
--- and an alarm is pending only in a stopped pump.   (01, Calls; Numbers; Volumes)
+-- calls run says just this is a theorem (proofs/Soundness.antt, sound-iff). Three clauses hold by the types of the state, and have no
+-- field here: the store is 0 outside a visit, at most one of visit, timed pause and trigger wait is under way, and an alarm is pending
+-- only in a stopped pump.   (01, Calls; Numbers; Volumes)
 use Prim.Native.Nat.{ℕ, _+_, _*_, _≤_, _<_}
 use mathlib.Core.Path.{_≡_}
 use mathlib.Core.Logic.{_⊎_}

@@ -1,4 +1,4 @@
-// Shows what the ground floor (decimal, drive, words, line, answer) makes of texts and figures: reads items from standard input,
+// Shows what the crates below the rules (decimal, drive, words, line, answer) make of texts and figures: reads items from standard input,
 // one a line, and prints a line for each. Its output is held to the stored one; it is proved safe and promises no more.
 //
 //   # ..                 a heading: shown as it is

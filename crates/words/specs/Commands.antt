@@ -1,4 +1,4 @@
--- The commands, listed once with a number for each, and the questions about a command, by it.   (01, Commands)
+-- The commands, a number for each and its data, and the questions about a command, by its number.   (01, Commands)
 use Prim.Native.Nat.{ℕ}
 use mathlib.Core.Bool.{Bool, _||_}
 use lib.Dec.{eqb}

@@ -7,11 +7,11 @@ use native.Mathlib.Omega.{arith}
 use lib.Dec.{ltb}
 use borrow.Author.Tests.{ltb-true}
 use Rattle.base.proofs.Choices.{and-left, and-right}
-use Rattle.drive.proofs.Bounds.{thousandth-ge}
 use Rattle.drive.specs.Syringe.{volumeUnit, thousandth}
 use Rattle.drive.specs.declared.rates.RateUnit.{RateUnit}
 use Rattle.drive.specs.declared.syringe.Syringe.{Syringe}
 use Rattle.drive.specs.declared.syringe.VolumeUnit.{VolumeUnit}
+use Rattle.drive.proofs.Bounds.{thousandth-ge}
 use Rattle.words.specs.declared.answers.Reply.the-variants as reply
 use Rattle.dispense.specs.declared.ledgers.Ledger.{Ledger}
 use Rattle.dispense.specs.declared.rates.Rate.{Rate}

@@ -11,8 +11,8 @@ use lib.Dec.{ltb, eqb}
 use borrow.Author.Tests.{ltb-true, eqb-true}
 use Rattle.base.proofs.Choices.{and-left, and-right, and-false}
 use Rattle.drive.specs.Syringe.{inFemtolitres, volumeUnit}
-use Rattle.drive.proofs.Bounds.{thousandth-ge}
 use Rattle.drive.specs.declared.syringe.Syringe.{Syringe}
+use Rattle.drive.proofs.Bounds.{thousandth-ge}
 use Rattle.words.specs.Functions.{isBeep, isRatePhase, pauseTicks}
 use Rattle.words.specs.declared.functions.Function.{Function}
 use Rattle.words.specs.declared.functions.Function.the-variants as f

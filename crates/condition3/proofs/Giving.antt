@@ -13,8 +13,8 @@ use Rattle.drive.specs.Rates.{hourly}
 use Rattle.drive.specs.Syringe.{stepVolume, threshold}
 use Rattle.drive.specs.declared.directions.Direction.{Direction}
 use Rattle.drive.specs.declared.directions.Direction.the-variants.{Infuse, Withdraw}
-use Rattle.drive.proofs.Theorems.{usable-iff, due-four}
 use Rattle.drive.specs.declared.syringe.Syringe.{Syringe}
+use Rattle.drive.proofs.Theorems.{usable-iff, due-four}
 use Rattle.words.specs.declared.phases.Phase.{Phase}
 use Rattle.dispense.specs.Ledgers.{mostTotal, totalOf, book}
 use Rattle.dispense.specs.Visits.{dueOf, stepsOf}

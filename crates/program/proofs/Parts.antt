@@ -1,24 +1,40 @@
--- A sound phase, a sound program under way and a sound core taken apart into their clauses, and put together again: the one place where
--- soundness is.
+-- A sound phase, ledger, visit, stopped pump, program under way and core taken apart into their clauses, and put together again: the one
+-- place where soundness is.
 -- Assumes nothing.
-use Prim.Native.Nat.{ℕ, _+_, _≤_}
-use mathlib.Core.Path.{_≡_}
-use mathlib.Core.Bool.{true, _&&_}
-use borrow.Author.Tests.{leb-true, le-leb}
-use Rattle.base.proofs.Choices.{and-left, and-right}
-use Rattle.base.proofs.Each.{each, all-of, and-both}
+use Prim.Native.Nat.{ℕ, _+_, _≤_, _<_}
+use mathlib.Core.Path.{_≡_, refl, ap}
+use mathlib.Core.Logic.{_⊎_, inl, inr, ⊎-elim}
+use mathlib.Core.Bool.{Bool, true, false, _&&_, _||_}
+use lib.Dec.{leb, ltb, eqb}
+use borrow.Author.Tests.{leb-true, le-leb, ltb-true, lt-ltb, eqb-true, eq-eqb}
+use Rattle.base.specs.All.{all}
+use Rattle.base.proofs.Choices.{and-left, and-right, false-true}
+use Rattle.base.proofs.Each.{each, all-of, and-both, either}
 use Rattle.decimal.specs.Writable.{writable}
 use Rattle.drive.specs.Rates.{mostRate}
-use Rattle.drive.specs.Syringe.{diameter}
-use Rattle.words.specs.Functions.{fits}
+use Rattle.drive.specs.Syringe.{diameter, threshold, target}
+use Rattle.drive.specs.declared.directions.Direction.{Direction}
+use Rattle.drive.specs.declared.directions.Direction.the-variants.{Infuse, Withdraw}
+use Rattle.drive.specs.declared.syringe.Syringe.{Syringe}
+use Rattle.words.specs.Functions.{fits, isRatePhase}
 use Rattle.words.specs.Phases.{isSoundPhase}
 use Rattle.words.specs.declared.phases.Phase.{Phase}
 use Rattle.loops.specs.Loops.{isSoundLoops}
-use Rattle.dispense.specs.Ledgers.{isSoundLedger}
-use Rattle.dispense.specs.Rates.{thousandths}
-use Rattle.program.specs.Sound.{isSoundTrap, isSoundWork, isSoundMode, runTests, isSoundRun, coreTests, isSoundCore}
+use Rattle.dispense.specs.Ledgers.{mostTotal, totalOf, isSoundLedger}
+use Rattle.dispense.specs.Rates.{thousandths, isNoRate, isUsableRate}
+use Rattle.dispense.specs.declared.ledgers.Ledger.{Ledger}
+use Rattle.dispense.specs.declared.rates.Rate.{Rate}
+use Rattle.dispense.specs.declared.rates.Rate.the-variants.{NoRate, Current}
+use Rattle.dispense.specs.declared.visits.Visit.{Visit}
+use Rattle.program.specs.Runs.{isEntering}
+use Rattle.program.specs.Sound.{isSoundTrap, visitTests, isSoundVisit, isSoundWork, isNoTrap, idleTests, isSoundMode}
+use Rattle.program.specs.Sound.{runTests, isSoundRun, coreTests, isSoundCore}
 use Rattle.program.specs.declared.state.Core.{Core}
 use Rattle.program.specs.declared.state.Run.{Run}
+use Rattle.program.specs.declared.state.Trap.{Trap}
+use Rattle.program.specs.declared.state.Trap.the-variants.{NoTrap, Armed}
+use Rattle.program.specs.declared.state.Work.{Work}
+use Rattle.program.specs.declared.state.Work.the-variants.{Entering, Visiting, Pausing, Waiting}
 
 -- ---- a phase
 pub record PhaseClauses (phases : ℕ) (p : Phase) : Type 0 where
@@ -42,6 +58,97 @@ module _ (phases : ℕ) (p : Phase) where
   phase-sound c =
       and-both (writable (p .rate) && writable (p .volume)) _
       (and-both (writable (p .rate)) _ (c .rate-written) (c .volume-written)) (c .datum-fits)
+
+-- ---- a ledger: the total of either direction
+pub ledger-clauses : (l : Ledger) → isSoundLedger l ≡ true → (way : Direction) → totalOf l way ≤ mostTotal
+unfolding isSoundLedger
+ledger-clauses l e Infuse = leb-true _ _ (and-left (leb (l .totals .infused) mostTotal) _ e)
+ledger-clauses l e Withdraw = leb-true _ _ (and-right (leb (l .totals .infused) mostTotal) _ e)
+
+pub ledger-sound : (l : Ledger) → totalOf l Infuse ≤ mostTotal → totalOf l Withdraw ≤ mostTotal → isSoundLedger l ≡ true
+unfolding isSoundLedger
+ledger-sound l i w = and-both _ _ (le-leb _ _ i) (le-leb _ _ w)
+
+-- ---- a visit: a continuous one has no target and counts no step
+pub record VisitClauses (d : Syringe) (here : Phase) (rate : Rate) (v : Visit) : Type 0 where
+  pub store-below : v .store < threshold d
+  pub aimed : v .target ≡ target d (here .volume)
+  pub fewer-given : (v .given < v .target) ⊎ (here .volume ≡ 0) × (v .given ≡ 0)
+  pub rate-usable : isUsableRate d rate ≡ true
+  pub in-rate-phase : isRatePhase (here .function) ≡ true
+
+or-right : (t u : Bool) → u ≡ true → (t || u) ≡ true
+or-right true u e = refl
+or-right false u e = e
+
+module _ (d : Syringe) (here : Phase) (rate : Rate) (v : Visit) where
+  pub visit-clauses : isSoundVisit d here rate v ≡ true → VisitClauses d here rate v
+  unfolding isSoundVisit
+  visit-clauses e =
+      let t = each (visitTests d here rate v) e in
+      record {
+        store-below = ltb-true _ _ (t .0);
+        aimed = eqb-true _ _ (t .1 .0);
+        fewer-given =
+            either (ltb (v .given) (v .target)) (eqb (here .volume) 0 && eqb (v .given) 0) (λ k. inl (ltb-true _ _ k))
+            (λ k. inr (eqb-true _ _ (and-left (eqb (here .volume) 0) _ k), eqb-true _ _ (and-right (eqb (here .volume) 0) _ k)))
+            (t .1 .1 .0);
+        rate-usable = t .1 .1 .1 .0;
+        in-rate-phase = t .1 .1 .1 .1 .0;
+      }
+
+  pub visit-sound : VisitClauses d here rate v → isSoundVisit d here rate v ≡ true
+  unfolding isSoundVisit
+  visit-sound c =
+      all-of (visitTests d here rate v) (
+        lt-ltb _ _ (c .store-below),
+        (
+          eq-eqb _ _ (c .aimed),
+          (
+            ⊎-elim (λ k. rw (lt-ltb (v .given) (v .target) k))
+                (λ k. or-right (ltb (v .given) (v .target)) _ (and-both _ _ (eq-eqb _ _ (k .0)) (eq-eqb _ _ (k .1))))
+                (c .fewer-given),
+            (c .rate-usable, (c .in-rate-phase, tt)),
+          ),
+        ),
+      )
+
+-- ---- a stopped pump
+pub record IdleClauses (r : Run) : Type 0 where
+  pub no-work : r .place .work ≡ Entering
+  pub no-trap : r .trap ≡ NoTrap
+  pub no-loop : r .loops .count ≡ 0
+  pub no-rate : r .rate ≡ NoRate
+
+entering-of : (w : Work) → isEntering w ≡ true → w ≡ Entering
+entering-of Entering h = refl
+entering-of (Visiting v) h = false-true h
+entering-of (Pausing left) h = false-true h
+entering-of Waiting h = false-true h
+
+no-trap-of : (t : Trap) → isNoTrap t ≡ true → t ≡ NoTrap
+no-trap-of NoTrap h = refl
+no-trap-of (Armed n) h = false-true h
+
+no-rate-of : (r : Rate) → isNoRate r ≡ true → r ≡ NoRate
+no-rate-of NoRate h = refl
+no-rate-of (Current unit r) h = false-true h
+
+module _ (r : Run) where
+  pub idle-clauses : all (idleTests r) ≡ true → IdleClauses r
+  idle-clauses e =
+      let t = each (idleTests r) e in
+      record {
+        no-work = entering-of (r .place .work) (t .0);
+        no-trap = no-trap-of (r .trap) (t .1 .0);
+        no-loop = eqb-true (r .loops .count) 0 (t .1 .1 .0);
+        no-rate = no-rate-of (r .rate) (t .1 .1 .1 .0);
+      }
+
+  pub idle-sound : IdleClauses r → all (idleTests r) ≡ true
+  idle-sound c =
+      all-of (idleTests r)
+      (ap isEntering (c .no-work), (ap isNoTrap (c .no-trap), (eq-eqb (r .loops .count) 0 (c .no-loop), (ap isNoRate (c .no-rate), tt))))
 
 -- ---- the program under way, but for what it is doing
 pub record RunClauses (phases : ℕ) (r : Run) : Type 0 where

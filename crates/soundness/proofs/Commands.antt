@@ -15,7 +15,7 @@ use Rattle.drive.specs.Syringe.{diameter}
 use Rattle.drive.specs.Directions.{reverse}
 use Rattle.drive.specs.declared.directions.Direction.{Direction}
 use Rattle.words.specs.Commands.{amount}
-use Rattle.words.specs.Functions.{number, fits, isPhase, isFlow, isRamp, isRatePhase}
+use Rattle.words.specs.Functions.{fits, isPhase, isFlow, isRamp, isRatePhase}
 use Rattle.words.specs.Phases.{isSoundPhase}
 use Rattle.words.specs.declared.commands.Command.{Command}
 use Rattle.words.specs.declared.commands.Command.the-variants as c
@@ -134,7 +134,7 @@ module _ (phases : ℕ) (look : ℕ → Phase) (table : Table phases look) (s : 
         run-sound phases _
             (going-with phases (s .run) (Current unit x) (s .run .trap) (s .run .loops) g (writable-grid x w .bounded)
             (g .clauses .trap-sound) (g .clauses .loops-sound) .clauses),
-        set.work-tuned d here (s .run .rate) x unit (s .run .place .work) u (parts .work-sound),
+        set.work-stays d here (here .direction) (s .run .rate) (Current unit x) (s .run .place .work) (λ _. u) (parts .work-sound),
       )
 
   set-rate-well : (next : Function) (x : ℕ) (units : Units) → writable x ≡ true → Well phases look s (obeying.setRate s hand next x units)
@@ -197,13 +197,13 @@ module _ (phases : ℕ) (look : ℕ → Phase) (table : Table phases look) (s : 
       decided _ Keep (judging.judgeIdle (isOperating (s .run)))
       (λ e.
       given-sound phases look s kept (s .run) _ here (parts .under-way) (parts .work-sound)
-      (figure-sound (s .ledger) way 0 (parts .ledger-sound) refl))
+      (figure-sound (s .ledger) way 0 (parts .ledger-sound) (omega arith)))
 
   -- ---- DIR, also while operating: no test of the core mentions a direction
   directed-kept : (k : ℕ) (way : Direction) → Kept phases (withPhase look k (withDirection (look k) way)) s
   directed-kept k way =
       let directed = given-sound phases look s kept (s .run) (s .ledger) (withDirection here way) (parts .under-way)
-      (set.work-directed (s .syringe) here way (s .run .rate) (s .run .place .work) (parts .work-sound))
+      (set.work-stays (s .syringe) here way (s .run .rate) (s .run .rate) (s .run .place .work) (λ u. u) (parts .work-sound))
       (parts .ledger-sound) in
       by-test (λ (p : Phase). isSoundCore phases s p ≡ true) (eqb (s .run .place .current) k)
       (λ e. subst (λ (n : ℕ). isSoundCore phases s (withDirection (look n) way) ≡ true) (eqb-true (s .run .place .current) k e) directed)
@@ -214,7 +214,7 @@ module _ (phases : ℕ) (look : ℕ → Phase) (table : Table phases look) (s : 
   rate-within op k =
       let current : inHand s ≡ s .run .place .current = ap (λ (t : Bool). if t then s .run .place .current else s .chosen) op in
       let rate = subst (λ (n : ℕ). isRatePhase (look n .function) ≡ true) current k in
-      let most = within phases look table (s .run) (going op .clauses) (rate-not-stop (number (here .function)) rate) in
+      let most = within phases look table (s .run) (going op .clauses) (rate-not-stop (here .function) rate) in
       omega (arith, current, most)
 
   direction-well :

@@ -19,7 +19,7 @@ use Rattle.program.specs.declared.state.Pending.{Pending}
 use Rattle.program.specs.declared.state.Pending.the-variants.{NoAlarm, Raised}
 use Rattle.program.specs.declared.state.Pins.{Pins}
 use Rattle.program.specs.declared.state.Run.{Run}
-use Rattle.program.proofs.Parts.{CoreClauses, core-clauses, core-sound, run-sound}
+use Rattle.program.proofs.Parts.{ledger-sound, run-sound, CoreClauses, core-clauses, core-sound}
 use Rattle.tick.specs.Ticks.{Ready}
 use Rattle.soundness.specs.Kept.{Kept, KeptRun}
 use Rattle.soundness.proofs.Runs.{fresh-sound}
@@ -75,7 +75,7 @@ new-sound :
     → 1 ≤ phases
     → (alarm : Pending) (pins : Pins) (p : Phase)
     → isSoundCore phases (withPins (withRun powerUpCore (freshAt 1 (Stopped alarm))) pins) p ≡ true
-unfolding diameter writable isSoundLedger
+unfolding diameter writable
 new-sound phases h alarm pins p =
     core-sound phases _ p
     (record {
@@ -83,7 +83,7 @@ new-sound phases h alarm pins p =
       written = refl;
       chosen-least = omega arith;
       chosen-most = h;
-      ledger-sound = refl;
+      ledger-sound = ledger-sound _ (omega arith) (omega arith);
       under-way = run-sound phases _ (fresh-sound phases 1 (Stopped alarm) (omega arith) (omega arith));
       work-sound = refl;
     })

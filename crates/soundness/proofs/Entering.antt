@@ -11,8 +11,8 @@ use Rattle.base.proofs.Each.{and-both}
 use Rattle.decimal.proofs.Grid.{writable-grid}
 use Rattle.drive.specs.Rates.{mostRate}
 use Rattle.drive.specs.Syringe.{diameter, threshold, target}
-use Rattle.drive.proofs.Bounds.{threshold-ge}
 use Rattle.drive.specs.declared.syringe.Syringe.{Syringe}
+use Rattle.drive.proofs.Bounds.{threshold-ge}
 use Rattle.words.specs.Functions.{number, fits, isPhase, isRatePhase, isWait, pauseTicks}
 use Rattle.words.specs.declared.answers.Alarm.the-variants.{Program}
 use Rattle.words.specs.declared.functions.Function.{Function}

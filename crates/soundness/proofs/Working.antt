@@ -7,13 +7,13 @@ use native.Mathlib.Omega.{arith}
 use lib.Dec.{leb, eqb}
 use borrow.Author.Tests.{leb-true, leb-false, le-leb, ne-eqb}
 use Rattle.base.proofs.Choices.{and-left, and-right}
-use Rattle.base.proofs.Each.{each, and-both}
+use Rattle.base.proofs.Each.{and-both}
 use Rattle.drive.specs.Rates.{hourly}
 use Rattle.drive.specs.Syringe.{diameter, threshold}
 use Rattle.drive.specs.declared.directions.Direction.{Direction}
 use Rattle.drive.specs.declared.directions.Direction.the-variants.{Infuse, Withdraw}
 use Rattle.drive.specs.declared.syringe.Syringe.{Syringe}
-use Rattle.words.specs.Functions.{number, pauseTicks}
+use Rattle.words.specs.Functions.{number, isRatePhase, pauseTicks}
 use Rattle.words.specs.declared.answers.Alarm.the-variants.{Program}
 use Rattle.words.specs.declared.functions.Function.{Function}
 use Rattle.words.specs.declared.phases.Phase.{Phase}
@@ -23,10 +23,11 @@ use Rattle.dispense.specs.declared.ledgers.Ledger.{Ledger}
 use Rattle.dispense.specs.declared.rates.Rate.{Rate}
 use Rattle.dispense.specs.declared.rates.Rate.the-variants.{NoRate, Current}
 use Rattle.dispense.specs.declared.visits.Visit.{Visit}
-use Rattle.program.specs.Sound.{Table, visitTests, isSoundVisit, isSoundWork}
+use Rattle.program.specs.Sound.{Table, isSoundVisit, isSoundWork}
 use Rattle.program.specs.declared.state.Pending.the-variants.{Raised}
 use Rattle.program.specs.declared.state.Run.{Run}
 use Rattle.program.specs.declared.state.Work.the-variants.{Visiting, Pausing}
+use Rattle.program.proofs.Parts.{ledger-clauses, ledger-sound, visit-clauses}
 use Rattle.tick.specs.Working.{doseOf, afterVisit, giveSteps, workAt, workVisit, workPause}
 use Rattle.tick.specs.declared.working.Given.{Given}
 use Rattle.soundness.specs.Kept.{KeptRun}
@@ -42,20 +43,14 @@ KeptGiven phases look d x = KeptRun phases look d (x .run) × (isSoundLedger (x 
 pub figure-sound :
     (l : Ledger) (way : Direction) (x : ℕ)
     → isSoundLedger l ≡ true
-    → leb x mostTotal ≡ true
+    → x ≤ mostTotal
     → isSoundLedger (record { totals = withFigure (l .totals) way x }) ≡ true
-unfolding isSoundLedger
-figure-sound l Infuse x e h = and-both (leb x mostTotal) _ h (and-right (leb (l .totals .infused) mostTotal) _ e)
-figure-sound l Withdraw x e h =
-    and-both (leb (l .totals .infused) mostTotal) _ (and-left (leb (l .totals .infused) mostTotal) _ e) h
+figure-sound l Infuse x e h = ledger-sound _ h (ledger-clauses l e Withdraw)
+figure-sound l Withdraw x e h = ledger-sound _ (ledger-clauses l e Infuse) h
 
 -- ---- what a phase is doing is of its function, so it does not stop
-pub rate-not-stop : (n : ℕ) → leb n 2 ≡ true → eqb n 3 ≡ false
-rate-not-stop n h = ne-eqb n 3 (λ e. let k = leb-true n 2 h in omega arith)
-
-visit-not-stop : (d : Syringe) (p : Phase) (rate : Rate) (v : Visit) → isSoundVisit d p rate v ≡ true → eqb (number (p .function)) 3 ≡ false
-unfolding isSoundVisit
-visit-not-stop d p rate v w = rate-not-stop (number (p .function)) (each (visitTests d p rate v) w .1 .1 .1 .1 .0)
+pub rate-not-stop : (g : Function) → isRatePhase g ≡ true → eqb (number g) 3 ≡ false
+rate-not-stop g h = ne-eqb (number g) 3 (λ e. let k = leb-true (number g) 2 h in omega arith)
 
 pause-not-stop : (g : Function) (left : ℕ) → 1 ≤ left → left ≤ pauseTicks g → eqb (number g) 3 ≡ false
 pause-not-stop g left lo hi =
@@ -89,9 +84,9 @@ module _ (phases : ℕ) (look : ℕ → Phase) (table : Table phases look) (d : 
       by-test (KeptGiven phases look d) (leb (totalOf l way + doseOf d v hourly) mostTotal)
       (λ q. (
         after-kept (workedOf v hourly (threshold d))
-            (within phases look table r (g .clauses) (visit-not-stop d here (r .rate) v w))
+            (within phases look table r (g .clauses) (rate-not-stop (here .function) (visit-clauses d here (r .rate) v w .in-rate-phase)))
             (worked-sound d here (r .rate) v hourly (threshold-above d e) w),
-        figure-sound l way (totalOf l way + doseOf d v hourly) s q,
+        figure-sound l way (totalOf l way + doseOf d v hourly) s (leb-true _ _ q),
       ))
       (λ q. (stop-kept phases look d r (g .clauses) (Raised Program), s))
 

@@ -7,35 +7,30 @@ use mathlib.Core.Bool.{Bool, true, false, _&&_, _||_, not}
 use mathlib.Core.List.{List, [], _∷_}
 use native.Mathlib.Nat.{zero-mul, zero-div}
 use native.Mathlib.Omega.{arith}
-use lib.Dec.{leb, ltb, eqb}
+use lib.Dec.{leb}
 use lib.ListN.{length, getD}
-use borrow.Author.Tests.{leb-true, le-leb, ltb-true, lt-ltb, eqb-true, eqb-false, eq-eqb, not-true}
+use borrow.Author.Tests.{leb-true, le-leb, eqb-true, not-true}
 use Rattle.base.proofs.Choices.{and-left, and-right, and-false, false-true, within}
-use Rattle.base.proofs.Each.{each, all-of, and-both, either}
+use Rattle.base.proofs.Each.{and-both, either}
 use Rattle.decimal.proofs.Theorems.{writable-iff}
 use Rattle.drive.specs.Syringe.{inFemtolitres, target}
-use Rattle.drive.proofs.Theorems.{usable-iff}
 use Rattle.drive.specs.declared.syringe.Syringe.{Syringe}
+use Rattle.drive.proofs.Theorems.{usable-iff}
 use Rattle.words.specs.Functions.{fits, isRatePhase, isWait}
 use Rattle.words.specs.Phases.{isSoundPhase}
 use Rattle.words.specs.declared.functions.Function.{Function}
 use Rattle.words.specs.declared.functions.Function.the-variants as f
 use Rattle.words.specs.declared.phases.Phase.{Phase}
-use Rattle.dispense.specs.Rates.{isUsableRate, isNoRate}
+use Rattle.dispense.specs.Rates.{isUsableRate}
 use Rattle.dispense.specs.declared.rates.Rate.{Rate}
 use Rattle.dispense.specs.declared.rates.Rate.the-variants.{NoRate, Current}
 use Rattle.dispense.specs.declared.visits.Visit.{Visit}
-use Rattle.program.specs.Runs.{isEntering}
-use Rattle.program.specs.Sound.{visitTests, isSoundVisit, isSoundMode, idleTests, isNoTrap}
+use Rattle.program.specs.Sound.{isSoundVisit, isSoundMode}
 use Rattle.program.specs.declared.state.Mode.{Mode}
 use Rattle.program.specs.declared.state.Mode.the-variants.{Stopped, Paused, Running}
 use Rattle.program.specs.declared.state.Pending.{Pending}
 use Rattle.program.specs.declared.state.Run.{Run}
-use Rattle.program.specs.declared.state.Trap.{Trap}
-use Rattle.program.specs.declared.state.Trap.the-variants.{NoTrap, Armed}
-use Rattle.program.specs.declared.state.Work.{Work}
-use Rattle.program.specs.declared.state.Work.the-variants.{Entering, Visiting, Pausing, Waiting}
-use Rattle.program.proofs.Parts.{phase-clauses, phase-sound}
+use Rattle.program.proofs.Parts.{phase-clauses, phase-sound, visit-clauses, visit-sound, idle-clauses, idle-sound}
 use Rattle.line.specs.Characters.{standing}
 use Rattle.line.specs.Lines.{text, allStanding, isSoundLine}
 use Rattle.line.specs.declared.lines.Line.{Line}
@@ -146,50 +141,30 @@ no-target d volume e = rw e (simp (zero-mul, zero-div))
 
 module _ (d : Syringe) (here : Phase) (rate : Rate) (v : Visit) where
   pub visit-facts : isSoundVisit d here rate v ≡ true → VisitFacts d here rate v
-  unfolding isSoundVisit
   visit-facts h =
-      let t = each (visitTests d here rate v) h in
-      let aim : v .target ≡ target d (here .volume) = eqb-true _ _ (t .1 .0) in
+      let c = visit-clauses d here rate v h in
       record {
-        store-below = ltb-true _ _ (t .0);
-        aimed = aim;
-        given-below =
-            λ ne.
-            either (ltb (v .given) (v .target)) (eqb (here .volume) 0 && eqb (v .given) 0) (ltb-true _ _)
-            (λ z. absurd (ne (eqb-true _ _ (and-left (eqb (here .volume) 0) (eqb (v .given) 0) z))))
-            (t .1 .1 .0);
+        store-below = c .store-below;
+        aimed = c .aimed;
+        given-below = λ ne. ⊎-elim (λ k. k) (λ k. absurd (ne (k .0))) (c .fewer-given);
         none-counted =
-            λ z.
-            either (ltb (v .given) (v .target)) (eqb (here .volume) 0 && eqb (v .given) 0)
-            (λ k. absurd (omega (arith, aim, no-target d (here .volume) z, ltb-true (v .given) (v .target) k)))
-            (λ k. eqb-true _ _ (and-right (eqb (here .volume) 0) (eqb (v .given) 0) k))
-            (t .1 .1 .0);
-        usable = usable-rate d rate .0 (t .1 .1 .1 .0);
-        in-rate-phase = stands-in (here .function) .0 (t .1 .1 .1 .1 .0);
+            λ z. ⊎-elim (λ k. absurd (omega (arith, no-target d (here .volume) z))) (λ k. k .1) (c .fewer-given);
+        usable = usable-rate d rate .0 (c .rate-usable);
+        in-rate-phase = stands-in (here .function) .0 (c .in-rate-phase);
       }
 
-  given-test :
-      VisitFacts d here rate v → (t : Bool) → eqb (here .volume) 0 ≡ t → (ltb (v .given) (v .target) || t && eqb (v .given) 0) ≡ true
-  given-test k true z = rw (eq-eqb (v .given) 0 (k .none-counted (eqb-true _ _ z))) (or-true (ltb (v .given) (v .target)))
-    where
-      or-true : (t : Bool) → (t || true) ≡ true
-      or-true true = refl
-      or-true false = refl
-  given-test k false z = rw (lt-ltb (v .given) (v .target) (k .given-below (eqb-false _ _ z))) refl
-
   pub visit-test : VisitFacts d here rate v → isSoundVisit d here rate v ≡ true
-  unfolding isSoundVisit
   visit-test k =
-      all-of (visitTests d here rate v) (
-        lt-ltb _ _ (k .store-below),
-        (
-          eq-eqb _ _ (k .aimed),
-          (
-            given-test k (eqb (here .volume) 0) refl,
-            (usable-rate d rate .1 (k .usable), (rate-phase-test (here .function) (k .in-rate-phase), tt)),
-          ),
-        ),
-      )
+      visit-sound d here rate v
+      (record {
+        store-below = k .store-below;
+        aimed = k .aimed;
+        fewer-given =
+            ⊎-elim (λ z. inr (omega arith, k .none-counted (omega arith))) (λ z. inl (k .given-below (omega arith)))
+            (within (here .volume) 0);
+        rate-usable = usable-rate d rate .1 (k .usable);
+        in-rate-phase = rate-phase-test (here .function) (k .in-rate-phase);
+      })
 
 -- ---- the characters of a line
 module _ (c : ℕ) where
@@ -253,35 +228,15 @@ module _ (l : Line) where
       full false e = refl
 
 -- ---- the mode: a stopped pump has nothing under way
-entering-of : (w : Work) → isEntering w ≡ true → w ≡ Entering
-entering-of Entering h = refl
-entering-of (Visiting v) h = false-true h
-entering-of (Pausing left) h = false-true h
-entering-of Waiting h = false-true h
-
-no-trap-of : (t : Trap) → isNoTrap t ≡ true → t ≡ NoTrap
-no-trap-of NoTrap h = refl
-no-trap-of (Armed n) h = false-true h
-
-no-rate-of : (r : Rate) → isNoRate r ≡ true → r ≡ NoRate
-no-rate-of NoRate h = refl
-no-rate-of (Current unit r) h = false-true h
-
 module _ (r : Run) where
   pub nothing : (a : Pending) → isSoundMode r (Stopped a) ≡ true → Nothing r
   nothing a h =
-      let t = each (idleTests r) h in
-      record {
-        no-work = entering-of (r .place .work) (t .0);
-        no-trap = no-trap-of (r .trap) (t .1 .0);
-        no-loop = eqb-true (r .loops .count) 0 (t .1 .1 .0);
-        no-rate = no-rate-of (r .rate) (t .1 .1 .1 .0);
-      }
+      let c = idle-clauses r h in
+      record { no-work = c .no-work; no-trap = c .no-trap; no-loop = c .no-loop; no-rate = c .no-rate }
 
   pub mode-test : (m : Mode) → ((a : Pending) → m ≡ Stopped a → Nothing r) → isSoundMode r m ≡ true
   mode-test (Stopped a) n =
       let k = n a refl in
-      all-of (idleTests r)
-      (ap isEntering (k .no-work), (ap isNoTrap (k .no-trap), (eq-eqb (r .loops .count) 0 (k .no-loop), (ap isNoRate (k .no-rate), tt))))
+      idle-sound r (record { no-work = k .no-work; no-trap = k .no-trap; no-loop = k .no-loop; no-rate = k .no-rate })
   mode-test Paused n = refl
   mode-test Running n = refl

@@ -1,29 +1,22 @@
 -- The test of soundness that every call runs says just the facts of specs/Facts.antt.
 --     sound-iff   a state passes the test exactly where each clause of document 01's sentence holds
 -- Assumes nothing.
-use Prim.Native.Nat.{ℕ, _≤_}
+use Prim.Native.Nat.{ℕ}
 use mathlib.Core.Path.{_≡_, refl, sym, ap, _∙_}
 use mathlib.Core.Logic.{_↔_}
-use mathlib.Core.Bool.{Bool, true}
-use lib.Dec.{leb}
-use borrow.Author.Tests.{leb-true, le-leb}
-use Rattle.base.proofs.Choices.{and-left, and-right}
-use Rattle.base.proofs.Each.{and-both}
+use mathlib.Core.Bool.{true}
 use Rattle.decimal.proofs.Theorems.{writable-iff}
 use Rattle.drive.specs.Syringe.{diameter}
+use Rattle.drive.specs.declared.directions.Direction.the-variants.{Infuse, Withdraw}
 use Rattle.words.specs.Functions.{isWait, pauseTicks}
 use Rattle.loops.proofs.Soundness.{count-le, loop-bounded, loops-differ, sound-of}
-use Rattle.dispense.specs.Ledgers.{mostTotal, isSoundLedger}
-use Rattle.dispense.specs.declared.ledgers.Ledger.{Ledger}
-use Rattle.program.specs.Sound.{isSoundTrap, isSoundMode, isSoundWork, isSoundCore}
+use Rattle.program.specs.Sound.{isSoundTrap, isSoundMode, isSoundWork}
 use Rattle.program.specs.declared.state.Trap.{Trap}
 use Rattle.program.specs.declared.state.Trap.the-variants.{NoTrap, Armed}
 use Rattle.program.specs.declared.state.Work.{Work}
 use Rattle.program.specs.declared.state.Work.the-variants.{Entering, Visiting, Pausing, Waiting}
-use Rattle.program.proofs.Parts.{RunClauses, run-clauses, run-sound, CoreClauses, core-clauses, core-sound}
-use Rattle.line.specs.Lines.{isSoundLine}
-use Rattle.pump.specs.Device.{isSoundDevice}
-use Rattle.pump.specs.Holder.{phaseCount, hereOf, isSoundPhases, isSoundPump}
+use Rattle.program.proofs.Parts.{ledger-clauses, ledger-sound, RunClauses, run-clauses, run-sound, CoreClauses, core-clauses, core-sound}
+use Rattle.pump.specs.Holder.{phaseCount, hereOf, isSoundPump}
 use Rattle.pump.specs.declared.holder.Pump.{Pump}
 use Rattle.pump.proofs.Kept.{pump-phases, pump-core, pump-line, pump-sound}
 use Rattle.statement.specs.Facts.{Between, Ranges, coreOf, runOf, underWay, Sound}
@@ -34,15 +27,6 @@ use Rattle.statement.proofs.Clauses.{between}
 diameter-facts : (d : ℕ) → (diameter d ≡ true) ↔ Between 100 d 50_000
 unfolding diameter
 diameter-facts d = between 100 d 50_000
-
-ledger-facts : (l : Ledger) → (isSoundLedger l ≡ true) ↔ ((l .totals .infused ≤ mostTotal) × (l .totals .withdrawn ≤ mostTotal))
-unfolding isSoundLedger
-ledger-facts l =
-    let in-most = leb (l .totals .infused) mostTotal in
-    let out-most = leb (l .totals .withdrawn) mostTotal in (
-      (λ h. (leb-true _ _ (and-left in-most out-most h), leb-true _ _ (and-right in-most out-most h))),
-      (λ k. and-both in-most out-most (le-leb _ _ (k .0)) (le-leb _ _ (k .1))),
-    )
 
 module _ (p : Pump) (e : isSoundPump p ≡ true) where
   core : CoreClauses (phaseCount p) (coreOf p) (hereOf p)
@@ -56,8 +40,8 @@ module _ (p : Pump) (e : isSoundPump p ≡ true) where
       record {
         diameter = diameter-facts (coreOf p .syringe .diameter) .0 (core .in-range);
         chosen = (core .chosen-least, core .chosen-most);
-        infused = ledger-facts (coreOf p .ledger) .0 (core .ledger-sound) .0;
-        withdrawn = ledger-facts (coreOf p .ledger) .0 (core .ledger-sound) .1;
+        infused = ledger-clauses (coreOf p .ledger) (core .ledger-sound) Infuse;
+        withdrawn = ledger-clauses (coreOf p .ledger) (core .ledger-sound) Withdraw;
         current = (run .least, run .most);
         rate = run .rate-most;
         trap = λ n k. between 1 n (phaseCount p) .0 (sym (ap (isSoundTrap (phaseCount p)) k) ∙ run .trap-sound);
@@ -116,7 +100,7 @@ module _ (p : Pump) (s : Sound p) where
         written = writable-iff (coreOf p .syringe .diameter) .1 (s .diameter-writable);
         chosen-least = s .ranges .chosen .0;
         chosen-most = s .ranges .chosen .1;
-        ledger-sound = ledger-facts (coreOf p .ledger) .1 (s .ranges .infused, s .ranges .withdrawn);
+        ledger-sound = ledger-sound (coreOf p .ledger) (s .ranges .infused) (s .ranges .withdrawn);
         under-way = run-sound (phaseCount p) (runOf p) run-test;
         work-sound = work-test (underWay p) refl;
       }

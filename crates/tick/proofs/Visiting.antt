@@ -9,8 +9,8 @@ use lib.Dec.{ltb, eqb}
 use borrow.Author.Tests.{le-leb, lt-leb}
 use Rattle.drive.specs.Syringe.{mostDiameter, stepVolume, threshold, target}
 use Rattle.drive.specs.declared.directions.Direction.{Direction}
-use Rattle.drive.proofs.Bounds.{step-volume-le}
 use Rattle.drive.specs.declared.syringe.Syringe.{Syringe}
+use Rattle.drive.proofs.Bounds.{step-volume-le}
 use Rattle.words.specs.declared.answers.Alarm.the-variants.{Program}
 use Rattle.words.specs.declared.phases.Phase.{Phase}
 use Rattle.dispense.specs.Ledgers.{mostTotal, totalOf, book}

@@ -12,11 +12,9 @@ use Rattle.answer.proofs.Lengths.{framed-length}
 use Rattle.answer.proofs.Theorems.{answer-length}
 use Rattle.words.specs.declared.answers.Said.{Said}
 use Rattle.words.specs.declared.answers.Said.the-variants as said
-use Rattle.line.specs.Lines.{afterByte}
-use Rattle.line.specs.declared.lines.Arrived.{Arrived}
-use Rattle.pump.specs.Calls.{byteReport, received, arrivedReport, afterLine, heardReport, saidBy, held}
+use Rattle.pump.specs.Calls.{byteReport, hear, answered}
 use Rattle.pump.specs.Holder.{isSoundPump}
-use Rattle.pump.specs.Reports.{refused, reported}
+use Rattle.pump.specs.Reports.{refused}
 use Rattle.pump.specs.declared.calls.Listened.{Listened}
 use Rattle.pump.specs.declared.holder.Pump.{Pump}
 use Rattle.pump.specs.declared.reports.Report.{Report}
@@ -32,22 +30,17 @@ answer-sized said.Nothing = inl refl
 answer-sized (said.Alarm a) = inr (omega (arith, framed-length 0 (bodyOf (said.Alarm a))), answer-length 0 (said.Alarm a))
 answer-sized (said.Answer status r) = inr (omega (arith, framed-length 0 (bodyOf (said.Answer status r))), answer-length 0 (said.Answer status r))
 
-heard-sized : (l : Listened) → Sized (heardReport l zeros .length)
+heard-sized : (l : Listened) → Sized (answered l zeros .length)
 unfolding lengthIn
-heard-sized l = answer-sized (saidBy (l .pump) (l .told))
+heard-sized l = answer-sized (l .said)
 
 pub byte-sized : (p : Pump) (b : ℕ) → Sized (byteReport p b zeros .length)
-unfolding byteReport received
-byte-sized p b = go (isSoundPump p) (afterByte (p .device .line) b)
+unfolding byteReport
+byte-sized p b = go (isSoundPump p)
   where
-    arrived :
-        (t : Bool) (q : Pump) → Sized ((if t then heardReport (afterLine q) zeros else reported q 0) .length)
-    arrived true q = heard-sized (afterLine q)
-    arrived false q = inl refl
-
-    go : (t : Bool) (a : Arrived) → Sized ((if t then arrivedReport p a zeros else refused p Unsound) .length)
-    go true a = arrived (a .ended) (held p a)
-    go false a = inl refl
+    go : (t : Bool) → Sized ((if t then answered (hear p b) zeros else refused p Unsound) .length)
+    go true = heard-sized (hear p b)
+    go false = inl refl
 
 pub sized : (p : Pump) (b : ℕ) (r : Report) → r ≡ byteReport p b zeros → Sized (r .length)
 sized p b r e = rw e (byte-sized p b)

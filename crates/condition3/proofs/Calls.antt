@@ -34,7 +34,6 @@ use Rattle.line.specs.Lines.{addressIn, commandIn}
 use Rattle.answer.specs.Answers.{bodyOf, answerOf}
 use Rattle.answer.specs.Replies.{dataOf}
 use Rattle.answer.proofs.Lengths.{framed-length, answer-around}
-use Rattle.pump.specs.Calls.{saidBy}
 use Rattle.pump.specs.Holder.{phaseCount, phaseAt, hereOf, withPhase, edited}
 use Rattle.pump.specs.declared.calls.Listened.{Listened}
 use Rattle.pump.specs.declared.device.Device.{Device}
@@ -172,7 +171,7 @@ module _ (p : Pump) (b : ℕ) (buffer : List ℕ) (o : Outcome) where
 
   -- what is told, and how long the answer is
   abbrev Tells : Listened → Type 0
-  Tells l = Still (l .pump) o × (o .report .length ≡ length (answerOf 0 (saidBy (l .pump) (l .told))))
+  Tells l = Still (l .pump) o × (o .report .length ≡ length (answerOf 0 (l .said)))
 
   -- a character that is kept, a line that is passed over, an alarm that is answered
   kept-quiet :

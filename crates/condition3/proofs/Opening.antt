@@ -58,6 +58,6 @@ unfolding read.isDigit read.isPoint read.plain read.digits read.points read.afte
     judging.judgePhase judging.judgeFunction obeying.settle obeying.setDiameter obeying.tune obeying.setRate obeying.choose
     obeying.clearTotal
     device.isSoundDevice device.obeyed device.ours device.hearLine holder.phaseAt holder.withPhase holder.freshPhases holder.isSoundPhases
-    holder.isSoundPump calls.tickCall calls.afterLine calls.received calls.receivedBuffer calls.byteReport calls.byteBuffer
+    holder.isSoundPump calls.tickCall calls.afterLine calls.hear calls.byteReport calls.byteBuffer
     histories.after observations.trace observations.noted
 opened = 0

@@ -11,6 +11,7 @@ use lib.ListN.{length}
 use borrow.Author.Tests.{lt-ltb, le-ltb, ne-eqb}
 use Rattle.base.specs.If.{if_then_else_}
 use Rattle.words.specs.declared.answers.Said.{Said}
+use Rattle.words.specs.declared.answers.Said.the-variants as s
 use Rattle.words.specs.declared.phases.Phase.{Phase}
 use Rattle.program.specs.Runs.{isOperating}
 use Rattle.program.specs.Statuses.{inHand}
@@ -21,9 +22,9 @@ use Rattle.tick.specs.declared.Moved.{Moved}
 use Rattle.line.specs.Lines.{afterByte}
 use Rattle.line.specs.declared.lines.Arrived.{Arrived}
 use Rattle.line.specs.declared.lines.Line.{Line}
-use Rattle.answer.specs.Answers.{room, lengthIn, bufferAfter}
+use Rattle.answer.specs.Answers.{room, lengthIn}
 use Rattle.pump.specs.Calls as calls
-use Rattle.pump.specs.Calls.{Handy, tickCall, levelled, pinCall, afterLine, answered, answeredBuffer, received, receivedBuffer}
+use Rattle.pump.specs.Calls.{Handy, tickCall, levelled, pinCall, saying, afterLine, hear, answered, answeredBuffer}
 use Rattle.pump.specs.Calls.{byteReport, byteBuffer}
 use Rattle.pump.specs.Device.{withLine, edge, hearLine, said}
 use Rattle.pump.specs.Holder.{phaseCount, phaseAt, hereOf, withDevice, edited, isSoundPump, checked}
@@ -114,13 +115,15 @@ module _ (p : Pump) (sound : Bool) (s : sound ≡ isSoundPump p) where
       unfolding byteBuffer
       byte-short-buffer h = sym (simp (sym s ∙ e, lt-ltb (length buffer) room h))
 
-      pub byte-received : (r : Report) → room ≤ length buffer → r ≡ received p b buffer → r ≡ byteReport p b buffer
-      unfolding byteReport
-      byte-received r h q = q ∙ sym (simp (sym s ∙ e, le-ltb (length buffer) room h))
+      module _ (l : Listened) (k : l ≡ hear p b) (h : room ≤ length buffer) where
+        pub byte-answered : (r : Report) → r ≡ answered l buffer → r ≡ byteReport p b buffer
+        unfolding byteReport
+        byte-answered r q = q ∙ ap (λ (x : Listened). answered x buffer) k ∙ sym (simp (sym s ∙ e, le-ltb (length buffer) room h))
 
-      pub byte-written : (after : List ℕ) → room ≤ length buffer → after ≡ receivedBuffer p b buffer → after ≡ byteBuffer p b buffer
-      unfolding byteBuffer
-      byte-written after h q = q ∙ sym (simp (sym s ∙ e, le-ltb (length buffer) room h))
+        pub byte-written : (after : List ℕ) → after ≡ answeredBuffer l buffer → after ≡ byteBuffer p b buffer
+        unfolding byteBuffer
+        byte-written after q =
+            q ∙ ap (λ (x : Listened). answeredBuffer x buffer) k ∙ sym (simp (sym s ∙ e, le-ltb (length buffer) room h))
 
   -- ---- a state that is not sound
   module _ (e : sound ≡ false) (r : Report) (q : r ≡ refused p Unsound) where
@@ -138,7 +141,7 @@ module _ (p : Pump) (sound : Bool) (s : sound ≡ isSoundPump p) where
 
 pub ruleset pins = (pin-levelled, no-pin, pin-unsound)
 
-pub ruleset bytes = (byte-short, byte-short-buffer, byte-received, byte-written, byte-unsound, byte-kept)
+pub ruleset bytes = (byte-short, byte-short-buffer, byte-answered, byte-written, byte-unsound, byte-kept)
 
 -- ---- a level
 module _ (p : Pump) (pin level : ℕ) (r : Report) where
@@ -155,9 +158,22 @@ module _ (p : Pump) (pin level : ℕ) (r : Report) where
   unfolding levelled
   some-level v h k q = q ∙ ap (λ (x : Device). reported (withDevice p x) 0) k ∙ sym (simp (le-ltb 1 level h))
 
+-- ---- what is said is framed
+pub answered-report :
+    (l : Listened) (buffer : List ℕ) (n : ℕ) (r : Report) → n ≡ lengthIn 0 (l .said) buffer → r ≡ reported (l .pump) n → r ≡ answered l buffer
+answered-report l buffer n r q e = e ∙ ap (reported (l .pump)) q
+
+-- ---- what is said has the status after the command
+pub saying-as :
+    (p : Pump) (t : Told) (here : Phase) (x : Said)
+    → here ≡ hereOf p
+    → x ≡ said (p .device) t (here .direction)
+    → record { pump = p; said = x } ≡ saying p t
+saying-as p t here x h k = rw (k, h)
+
 -- ---- a whole line
 pub listened-as :
-    {count : ℕ} (p : Pump) (n : ℕ) (here next : Phase) (h : Heard) (held after : Pump)
+    {count : ℕ} (p : Pump) (n : ℕ) (here next : Phase) (h : Heard) (held after : Pump) (l : Listened)
     → phaseCount p ≡ count
     → n ≡ inHand (p .device .core)
     → here ≡ phaseAt (p .phases) n
@@ -165,55 +181,24 @@ pub listened-as :
     → h ≡ hearLine (p .device) here (next .function) count
     → held ≡ withDevice p (h .device)
     → after ≡ edited held n (h .edit)
-    → record { pump = after; told = h .told } ≡ afterLine p
+    → l ≡ saying after (h .told)
+    → l ≡ afterLine p
 unfolding afterLine
-listened-as p n here next h held after full a b d g k q = rw (q, k, g, b, d, a, full)
+listened-as p n here next h held after l full a b d g k q e = rw (e, q, k, g, b, d, a, full)
 
--- ---- an answer has the status after the command
-module _ (p : Pump) (t : Told) (buffer : List ℕ) (here : Phase) (x : Said)
-    (h : here ≡ hereOf p) (k : x ≡ said (p .device) t (here .direction)) where
-  said-is : x ≡ calls.saidBy p t
-  said-is = k ∙ ap (λ (y : Phase). said (p .device) t (y .direction)) h
-
-  pub answered-report : (n : ℕ) (r : Report) → n ≡ lengthIn 0 x buffer → r ≡ reported p n → r ≡ answered p t buffer
-  answered-report n r q e = e ∙ ap (reported p) (q ∙ ap (λ (y : Said). lengthIn 0 y buffer) said-is)
-
-  pub answered-written : (after : List ℕ) → after ≡ bufferAfter 0 x buffer → after ≡ answeredBuffer p t buffer
-  answered-written after q = q ∙ ap (λ (y : Said). bufferAfter 0 y buffer) said-is
-
--- ---- a byte that was received
-module _ (p : Pump) (b : ℕ) (buffer : List ℕ) (a : Arrived) (v : Device)
+-- ---- a byte that is heard
+module _ (p : Pump) (b : ℕ) (a : Arrived) (v : Device)
     (k : a ≡ afterByte (p .device .line) b) (g : v ≡ withLine (p .device) (a .line)) where
   held-is : withDevice p v ≡ calls.held p a
   held-is = ap (withDevice p) g
 
-  pub line-goes-on : (r : Report) → a .ended ≡ false → r ≡ reported (withDevice p v) 0 → r ≡ received p b buffer
-  unfolding received
-  line-goes-on r e q =
-      q ∙ ap (λ (x : Pump). reported x 0) held-is ∙ sym (simp e) ∙ ap (λ (x : Arrived). calls.arrivedReport p x buffer) k
+  pub line-goes-on : a .ended ≡ false → record { pump = withDevice p v; said = s.Nothing } ≡ hear p b
+  unfolding hear
+  line-goes-on e =
+      ap (λ (x : Pump). record { pump = x; said = s.Nothing }) held-is ∙ sym (simp e) ∙ ap (calls.heardBy p) k
 
-  pub buffer-stays : a .ended ≡ false → buffer ≡ receivedBuffer p b buffer
-  unfolding receivedBuffer
-  buffer-stays e = sym (simp e) ∙ ap (λ (x : Arrived). calls.arrivedBuffer p x buffer) k
+  pub line-ends : (l : Listened) → l ≡ afterLine (withDevice p v) → a .ended ≡ true → l ≡ hear p b
+  unfolding hear
+  line-ends l m e = m ∙ ap afterLine held-is ∙ sym (simp e) ∙ ap (calls.heardBy p) k
 
-  module _ (l : Listened) (m : l ≡ afterLine (withDevice p v)) (e : a .ended ≡ true) where
-    listened-is : l ≡ afterLine (calls.held p a)
-    listened-is = m ∙ ap afterLine held-is
-
-    pub line-ends : (r : Report) → r ≡ answered (l .pump) (l .told) buffer → r ≡ received p b buffer
-    unfolding received
-    line-ends r q =
-        q
-        ∙ ap (λ (x : Listened). calls.heardReport x buffer) listened-is
-        ∙ sym (simp e)
-        ∙ ap (λ (x : Arrived). calls.arrivedReport p x buffer) k
-
-    pub buffer-written : (after : List ℕ) → after ≡ answeredBuffer (l .pump) (l .told) buffer → after ≡ receivedBuffer p b buffer
-    unfolding receivedBuffer
-    buffer-written after q =
-        q
-        ∙ ap (λ (x : Listened). calls.heardBuffer x buffer) listened-is
-        ∙ sym (simp e)
-        ∙ ap (λ (x : Arrived). calls.arrivedBuffer p x buffer) k
-
-pub ruleset arrivals = (line-goes-on, line-ends, buffer-stays, buffer-written)
+pub ruleset arrivals = (line-goes-on, line-ends)

@@ -5,7 +5,7 @@ use mathlib.Core.List.{List}
 use lib.Dec.{ltb, eqb}
 use lib.ListN.{length}
 use Rattle.base.specs.If.{if_then_else_}
-use Rattle.words.specs.declared.answers.Said.{Said}
+use Rattle.words.specs.declared.answers.Said.the-variants as said
 use Rattle.program.specs.Statuses.{inHand}
 use Rattle.tick.specs.Ticks.{tickOf}
 use Rattle.line.specs.Lines.{afterByte}
@@ -45,9 +45,13 @@ unfoldable pub pinCall : Pump → ℕ → ℕ → Report
 pinCall p pin level =
     if isSoundPump p then if isPin pin then levelled p pin level else refused p NoPin else refused p Unsound
 
+-- ---- what is said, with the status after the command: that of the phase which is then the current one
+abbrev pub saying : Pump → Told → Listened
+saying p t = record { pump = p; said = said (p .device) t (hereOf p .direction) }
+
 -- ---- a whole line: the phases that it may concern are looked up, and the edit that it asks for is stored
 abbrev pub listenedTo : Pump → Heard → Listened
-listenedTo p h = record { pump = edited (withDevice p (h .device)) (inHand (p .device .core)) (h .edit); told = h .told }
+listenedTo p h = saying (edited (withDevice p (h .device)) (inHand (p .device .core)) (h .edit)) (h .told)
 
 unfoldable pub afterLine : Pump → Listened
 afterLine p =
@@ -55,44 +59,30 @@ afterLine p =
     (hearLine (p .device) (phaseAt (p .phases) (inHand (p .device .core)))
     (phaseAt (p .phases) (inHand (p .device .core) + 1) .function) (phaseCount p))
 
--- the report and the buffer of what is told: an answer with our address, 0, and the status after the command
-abbrev pub saidBy : Pump → Told → Said
-saidBy p t = said (p .device) t (hereOf p .direction)
-
-abbrev pub answered : Pump → Told → List ℕ → Report
-answered p t buffer = reported p (lengthIn 0 (saidBy p t) buffer)
-
-abbrev pub answeredBuffer : Pump → Told → List ℕ → List ℕ
-answeredBuffer p t buffer = bufferAfter 0 (saidBy p t) buffer
-
-abbrev pub heardReport : Listened → List ℕ → Report
-heardReport l buffer = answered (l .pump) (l .told) buffer
-
-abbrev pub heardBuffer : Listened → List ℕ → List ℕ
-heardBuffer l buffer = answeredBuffer (l .pump) (l .told) buffer
-
--- ---- a byte: 4, then 1 where the buffer has under 24 bytes; what is refused leaves the buffer as it was
+-- ---- a byte goes to the line, and a line that it ends is heard
 abbrev pub held : Pump → Arrived → Pump
 held p a = withDevice p (withLine (p .device) (a .line))
 
-abbrev pub arrivedReport : Pump → Arrived → List ℕ → Report
-arrivedReport p a buffer = if a .ended then heardReport (afterLine (held p a)) buffer else reported (held p a) 0
+abbrev pub heardBy : Pump → Arrived → Listened
+heardBy p a = if a .ended then afterLine (held p a) else record { pump = held p a; said = said.Nothing }
 
-abbrev pub arrivedBuffer : Pump → Arrived → List ℕ → List ℕ
-arrivedBuffer p a buffer = if a .ended then heardBuffer (afterLine (held p a)) buffer else buffer
+unfoldable pub hear : Pump → ℕ → Listened
+hear p b = heardBy p (afterByte (p .device .line) b)
 
-unfoldable pub received : Pump → ℕ → List ℕ → Report
-received p b buffer = arrivedReport p (afterByte (p .device .line) b) buffer
+-- the report and the buffer of what is said: framed with our address, 0
+abbrev pub answered : Listened → List ℕ → Report
+answered l buffer = reported (l .pump) (lengthIn 0 (l .said) buffer)
 
-unfoldable pub receivedBuffer : Pump → ℕ → List ℕ → List ℕ
-receivedBuffer p b buffer = arrivedBuffer p (afterByte (p .device .line) b) buffer
+abbrev pub answeredBuffer : Listened → List ℕ → List ℕ
+answeredBuffer l buffer = bufferAfter 0 (l .said) buffer
 
+-- ---- the call: 4, then 1 where the buffer has under 24 bytes; what is refused leaves the buffer as it was
 unfoldable pub byteReport : Pump → ℕ → List ℕ → Report
 byteReport p b buffer =
     if isSoundPump p
-    then if ltb (length buffer) room then refused p ShortBuffer else received p b buffer
+    then if ltb (length buffer) room then refused p ShortBuffer else answered (hear p b) buffer
     else refused p Unsound
 
 unfoldable pub byteBuffer : Pump → ℕ → List ℕ → List ℕ
 byteBuffer p b buffer =
-    if isSoundPump p then if ltb (length buffer) room then buffer else receivedBuffer p b buffer else buffer
+    if isSoundPump p then if ltb (length buffer) room then buffer else answeredBuffer (hear p b) buffer else buffer

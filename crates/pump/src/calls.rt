@@ -1,16 +1,27 @@
 // The calls: a byte, a pin level, a tick. Each tests the whole state first; no call has a precondition.
 ghost use mathlib.Core.Path.{_≡_};
-ghost use Rattle.pump.specs.Calls.{Handy, tickCall, pinCall, levelled, byteReport, byteBuffer, received, receivedBuffer};
-ghost use Rattle.pump.specs.Calls.{afterLine, answered, answeredBuffer};
+ghost use Rattle.pump.specs.Calls.{Handy, tickCall, pinCall, levelled, byteReport, byteBuffer, hear, afterLine, saying};
+ghost use Rattle.pump.specs.Calls.{answered, answeredBuffer};
 use crate::device::Told;
 use crate::holder::Pump;
 use crate::reports::Refusal;
 use crate::reports::Report;
+use words::Said;
 
-// The pump after a whole line, and what is told.
+// The pump after a byte, and what it says: a value, whatever frames it.
 pub struct Listened {
     pub pump: Pump,
-    pub told: Told,
+    pub said: Said,
+}
+
+impl Listened {
+    // Framed at the last moment, with our address.
+    fn answered(self, out: &mut [u8]) -> Report
+        ensures { λ r. ⌜ (r ≡ answered self (now (out .entry))) × (now (out .exit) ≡ answeredBuffer self (now (out .entry))) ⌝ }
+    {
+        let said = self.said;
+        self.pump.reported(answer::write(0, said, out))
+    }
 }
 
 impl Pump {
@@ -48,7 +59,7 @@ impl Pump {
             if out.len() < answer::ROOM {
                 return self.refused(Refusal::ShortBuffer);
             }
-            return self.received(b, out);
+            return self.hear(b).answered(out);
         }
         self.refused(Refusal::Unsound)
     }
@@ -65,19 +76,20 @@ impl Pump {
         self.reported(0)
     }
 
-    // The byte goes to the line, and a line that it ends is answered.
-    fn received(mut self, b: u8, out: &mut [u8]) -> Report
+    // The byte goes to the line, and a line that it ends is heard.
+    fn hear(mut self, b: u8) -> Listened
         requires { ⌜ Handy self ⌝ }
-        ensures { λ r. ⌜ (r ≡ received self b (now (out .entry))) × (now (out .exit) ≡ receivedBuffer self b (now (out .entry))) ⌝ }
+        ensures { λ r. ⌜ r ≡ hear self b ⌝ }
     {
         let arrived = self.device.line.after(b);
         self.device = self.device.with_line(arrived.line);
         if arrived.ended {
-            let listened = self.after_line();
-            let told = listened.told;
-            return listened.pump.answered(told, out);
+            return self.after_line();
         }
-        self.reported(0)
+        Listened {
+            pump: self,
+            said: Said::Nothing,
+        }
     }
 
     // The whole line is the one that the device holds: the phases that it may concern are looked up, and the edit is stored.
@@ -93,19 +105,19 @@ impl Pump {
         let edit = heard.edit;
         let told = heard.told;
         self = self.with_device(heard.device);
-        self = self.edited(n, edit);
-        Listened {
-            pump: self,
-            told: told,
-        }
+        self.edited(n, edit).saying(told)
     }
 
-    // Framed at the last moment, with our address.
-    fn answered(self, told: Told, out: &mut [u8]) -> Report
-        ensures { λ r. ⌜ (r ≡ answered self told (now (out .entry))) × (now (out .exit) ≡ answeredBuffer self told (now (out .entry))) ⌝ }
+    // The status is that after the command.
+    fn saying(self, told: Told) -> Listened
+        ensures { λ r. ⌜ r ≡ saying self told ⌝ }
     {
         let current = self.phase_at(self.device.core.run.place.current);
         let direction = current.direction;
-        self.reported(answer::write(0, self.device.said(told, direction), out))
+        let said = self.device.said(told, direction);
+        Listened {
+            pump: self,
+            said: said,
+        }
     }
 }

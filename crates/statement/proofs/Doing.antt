@@ -18,8 +18,7 @@ use Rattle.line.specs.Lines.{afterByte}
 use Rattle.line.specs.declared.lines.Arrived.{Arrived}
 use Rattle.answer.specs.Answers.{answerOf, lengthIn, bufferAfter}
 use Rattle.answer.proofs.Theorems.{length-kept}
-use Rattle.pump.specs.Calls.{ticked, levelled, pinCall, arrivedReport, arrivedBuffer, heardReport, heardBuffer}
-use Rattle.pump.specs.Calls.{saidBy, held, afterLine, received, receivedBuffer, byteReport, byteBuffer}
+use Rattle.pump.specs.Calls.{ticked, levelled, pinCall, hear, answered, answeredBuffer, byteReport, byteBuffer}
 use Rattle.pump.specs.Device.{edgeOf, edge}
 use Rattle.pump.specs.Holder.{isSoundPump}
 use Rattle.pump.specs.Reports.{reported}
@@ -29,7 +28,7 @@ use Rattle.statement.specs.Facts.{coreOf}
 use Rattle.statement.specs.Histories.{Call, byteIn, pinAt, tickIn}
 use Rattle.statement.specs.Outcomes.{outcomeOf, Pin, Still, Written, Ticked, Level, low, high, Edge, two, four, six}
 use Rattle.statement.specs.Outcomes.{Levelled, Heard, Does, withCore, quiet}
-use Rattle.statement.proofs.Hearing.{heardBy, heard, hears}
+use Rattle.statement.proofs.Hearing.{heard, hears}
 use Rattle.statement.proofs.Refusals.{Fine, pin-test}
 
 still : (q : Pump) (n : ℕ) (buffer : List ℕ) → Still q (record { report = reported q n; buffer = buffer })
@@ -112,38 +111,14 @@ module _ (before : List ℕ) (h : 24 ≤ length before) where
         other-bytes = λ i k j. ap (λ x. getD x i 0) (buffer-in s) ∙ past a before i k;
       }
 
-  -- a byte that does not end the line is as one after which nothing is told
-  report-arrived : (p : Pump) (a : Arrived) → arrivedReport p a before ≡ heardReport (heardBy p a) before
-  report-arrived p a = go (a .ended)
-    where
-      go :
-          (t : Bool)
-          → (if t then heardReport (afterLine (held p a)) before else reported (held p a) 0)
-          ≡ heardReport (if t then afterLine (held p a) else quiet (held p a)) before
-      go true = refl
-      go false = ap (reported (held p a)) (sym (length-in said.Nothing))
-
-  buffer-arrived : (p : Pump) (a : Arrived) → arrivedBuffer p a before ≡ heardBuffer (heardBy p a) before
-  buffer-arrived p a = go (a .ended)
-    where
-      go :
-          (t : Bool)
-          → (if t then heardBuffer (afterLine (held p a)) before else before)
-          ≡ heardBuffer (if t then afterLine (held p a) else quiet (held p a)) before
-      go true = refl
-      go false = sym (buffer-in said.Nothing)
-
   module _ (p : Pump) (b : ℕ) (e : isSoundPump p ≡ true) where
-    abbrev arrived : Arrived
-    arrived = afterByte (p .device .line) b
+    report-heard : byteReport p b before ≡ answered (heard p b) before
+    unfolding byteReport hear
+    report-heard = simp (e, le-ltb (length before) 24 h) refl
 
-    report-heard : byteReport p b before ≡ heardReport (heard p b) before
-    unfolding byteReport received
-    report-heard = simp (e, le-ltb (length before) 24 h) (report-arrived p arrived)
-
-    buffer-heard : byteBuffer p b before ≡ heardBuffer (heard p b) before
-    unfolding byteBuffer receivedBuffer
-    buffer-heard = simp (e, le-ltb (length before) 24 h) (buffer-arrived p arrived)
+    buffer-heard : byteBuffer p b before ≡ answeredBuffer (heard p b) before
+    unfolding byteBuffer hear
+    buffer-heard = simp (e, le-ltb (length before) 24 h) refl
 
     byte-does : Heard p b before (outcomeOf p (byteIn b before))
     byte-does =
@@ -153,7 +128,7 @@ module _ (before : List ℕ) (h : 24 ≤ length before) where
           said = l;
           hears = hears p b;
           still = still (l .pump) _ _;
-          written = written (l .pump) (saidBy (l .pump) (l .told));
+          written = written (l .pump) (l .said);
         })
 
 pub does : (p : Pump) (call : Call) → isSoundPump p ≡ true → Fine call → Does p call (outcomeOf p call)

@@ -16,7 +16,7 @@ use Rattle.line.specs.declared.arriving.Arrival.{Arrival}
 use Rattle.line.specs.declared.arriving.Arrival.the-variants.{Dropped, Kept}
 use Rattle.line.specs.declared.lines.Arrived.{Arrived}
 use Rattle.line.specs.declared.lines.Line.{Line}
-use Rattle.pump.specs.Calls.{listenedTo, afterLine, held}
+use Rattle.pump.specs.Calls.{listenedTo, afterLine, heardBy}
 use Rattle.pump.specs.Device as device
 use Rattle.pump.specs.Holder.{phaseCount, phaseAt}
 use Rattle.pump.specs.declared.calls.Listened.{Listened}
@@ -24,10 +24,6 @@ use Rattle.pump.specs.declared.holder.Pump.{Pump}
 use Rattle.statement.specs.Facts.{coreOf, runOf}
 use Rattle.statement.specs.Outcomes.{withLine, quiet, emptied, obeyed}
 use Rattle.statement.specs.Outcomes.{Hears, collected, other-address, alarm-pending, reset, obeys}
-
--- what is said after a byte
-abbrev pub heardBy : Pump → Arrived → Listened
-heardBy p a = if a .ended then afterLine (held p a) else quiet (held p a)
 
 -- ---- the return, and any other byte
 returned : (l : Line) (b : ℕ) → b ≡ 13 → afterByte l b ≡ record { line = l; ended = true }

@@ -15,7 +15,6 @@ use lib.Seq.{ext-getD}
 use borrow.Author.Tests.{ltb-true, ltb-false}
 use Rattle.program.specs.declared.state.Core.{Core}
 use Rattle.answer.specs.Answers.{answerOf}
-use Rattle.pump.specs.Calls.{saidBy}
 use Rattle.pump.specs.Device.{edgeOf}
 use Rattle.pump.specs.Reports.{refusalNumber}
 use Rattle.pump.specs.declared.calls.Listened.{Listened}
@@ -141,7 +140,7 @@ levelled-is p pin n o l =
 does-unique : (p : Pump) (call : Call) (y z : Outcome) → Does p call y → Does p call z → y ≡ z
 does-unique p (byteIn b buffer) y z a k =
     let same = hears-is p b (k .said) (k .hears) ∙ sym (hears-is p b (a .said) (a .hears)) in
-    let w = subst (λ (s : Listened). Written (answerOf 0 (saidBy (s .pump) (s .told))) buffer z) same (k .written) in
+    let w = subst (λ (s : Listened). Written (answerOf 0 (s .said)) buffer z) same (k .written) in
     still-unique y z (a .said .pump) (a .still) (subst (λ (s : Listened). Still (s .pump) z) same (k .still))
     (both (a .written .whole) (w .whole)) (written-unique y z _ buffer (a .written) w)
 does-unique p (pinAt pin level) y z a b =

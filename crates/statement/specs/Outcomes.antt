@@ -8,6 +8,7 @@ use mathlib.Core.List.{List}
 use lib.ListN.{length, getD}
 use Rattle.words.specs.declared.answers.Alarm.{Alarm}
 use Rattle.words.specs.declared.answers.Reply.the-variants as reply
+use Rattle.words.specs.declared.answers.Said.the-variants as s
 use Rattle.words.specs.declared.commands.Command.{Command}
 use Rattle.words.specs.declared.commands.Command.the-variants as c
 use Rattle.program.specs.Cores.{withRun, resetCore}
@@ -23,12 +24,11 @@ use Rattle.command.specs.declared.obeying.Obeyed.{Obeyed}
 use Rattle.line.specs.Lines.{emptyLine, afterByte, addressIn, commandIn}
 use Rattle.line.specs.declared.lines.Line.{Line}
 use Rattle.answer.specs.Answers.{answerOf}
-use Rattle.pump.specs.Calls.{saidBy}
+use Rattle.pump.specs.Calls.{saying}
 use Rattle.pump.specs.Device as device
 use Rattle.pump.specs.Holder.{phaseCount, phaseAt, hereOf, withDevice, withPhases, freshPhases, edited}
 use Rattle.pump.specs.Reports.{refusalNumber}
 use Rattle.pump.specs.declared.calls.Listened.{Listened}
-use Rattle.pump.specs.declared.device.Told.{Told}
 use Rattle.pump.specs.declared.device.Told.the-variants as told
 use Rattle.pump.specs.declared.holder.Pump.{Pump}
 use Rattle.pump.specs.declared.reports.Report.{Report}
@@ -132,10 +132,7 @@ pub record Levelled (p : Pump) (pin level : ℕ) (o : Outcome) : Type 0 where
 -- ---- a byte: the checks in their order. Any byte but the return goes into the line. The return ends the line, which is emptied: another
 -- address is passed over; a pending alarm is answered, then cleared, and all else stays; a command is obeyed
 abbrev pub quiet : Pump → Listened
-quiet q = record { pump = q; told = told.Nothing }
-
-abbrev pub saying : Pump → Told → Listened
-saying q t = record { pump = q; told = t }
+quiet q = record { pump = q; said = s.Nothing }
 
 abbrev pub emptied : Pump → Pump
 emptied p = withLine p emptyLine
@@ -173,12 +170,12 @@ pub data Hears (p : Pump) (b : ℕ) : Listened → Type 0 where
       → pending (runOf p) ≡ NoAlarm
       → Hears p b (obeyed p (commandIn (p .device .line)))
 
--- the answer bears our address, 0, and has the status after the command; where nothing is told it has no byte
+-- the answer bears our address, 0; where nothing is said it has no byte
 pub record Heard (p : Pump) (b : ℕ) (before : List ℕ) (o : Outcome) : Type 0 where
   pub said : Listened
   pub hears : Hears p b said
   pub still : Still (said .pump) o
-  pub written : Written (answerOf 0 (saidBy (said .pump) (said .told))) before o
+  pub written : Written (answerOf 0 (said .said)) before o
 
 -- ---- the whole
 abbrev pub Does : Pump → Call → Outcome → Type 0

@@ -11,9 +11,9 @@ use Rattle.pump.proofs.holder.Pump.byte.Tie as tie
 returns : tie.Need-returns
 returns c = search bytes
 
-received-requires : tie.Need-received-requires
-received-requires c κs =
-    let first = c .before .before .before .before .before in
+hear-requires : tie.Need-hear-requires
+hear-requires c κs =
+    let first = c .before .before .before .before in
     let full = simp length-map at (first .good .0 .1 .1 .0 .1 .0 .1) in
     let few : length (first .args .self .phases) ≤ 99 = omega (arith, full) in
     search handy-now
@@ -31,7 +31,8 @@ byte-spec =
     (λ c κs. search needs)
     (λ c κs. tt)
     returns
-    received-requires
+    hear-requires
+    (λ c κs. tt)
     (λ c. search needs)
     returns-2
     (λ c κs. tt)

@@ -6,7 +6,7 @@ use mathlib.Core.Path.{refl}
 use mathlib.Core.List.{List, [], _∷_, _++_}
 use Rattle.base.specs.Rows.{Gives}
 use Rattle.base.specs.Text.{text}
-use Rattle.decimal.specs.Print.{digit, printed, twoDigits, tenthsPrinted}
+use Rattle.decimal.specs.Print.{lastDigit, print, printTwo, printTenths}
 use Rattle.drive.specs.declared.rates.RateUnit.the-variants.{Mh}
 use Rattle.drive.specs.declared.syringe.VolumeUnit.the-variants.{Microlitre}
 use Rattle.drive.specs.declared.directions.Direction.the-variants.{Infuse}
@@ -56,5 +56,5 @@ rows =
     ∷ []
 
 pub rows-answered : Gives (λ (of : ℕ × Said). answerOf (of .0) (of .1)) rows
-unfolding digit printed twoDigits tenthsPrinted framed
+unfolding lastDigit print printTwo printTenths framed
 rows-answered = refl

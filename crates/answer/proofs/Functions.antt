@@ -10,7 +10,7 @@ use borrow.Author.Tests.{eq-eqb, ne-eqb}
 use lib.Dec.{eqb}
 use lib.ListN.{length, take}
 use Rattle.base.specs.If.{if_then_else_}
-use Rattle.decimal.specs.Print.{digit, twoDigits, tenthsPrinted}
+use Rattle.decimal.specs.Print.{lastDigit, printTwo, printTenths}
 use Rattle.words.specs.Functions.{number, datum, takesPhase, takesCount, isOut}
 use Rattle.words.specs.Spelling.{functionName, datumText}
 use Rattle.words.specs.declared.functions.Function.{Function}
@@ -27,18 +27,18 @@ pub name-first : (g : Function) (n : ℕ) (s : List ℕ) → n ≡ length (funct
 name-first g n s a b = rw (sub-zero n, a) b
 
 module _ (g : Function) (n d : ℕ) (a : n ≡ number g) (b : d ≡ datum g) where
-  pub datum-tenths : n ≡ 9 → tenthsPrinted d ≡ datumText g
+  pub datum-tenths : n ≡ 9 → printTenths d ≡ datumText g
   datum-tenths e = rw (b) (simp (eq-eqb _ _ (rw (a) at e)))
 
   module _ (h : n ≡ 9 → ⊥) (t t′ : Bool) (p : t ≡ takesPhase g) (q : t′ ≡ takesCount g) where
     not-tenths : eqb (number g) 9 ≡ false
     not-tenths = ne-eqb _ _ (rw (a) at h)
 
-    pub datum-two : (t || t′ || eqb n 8) ≡ true → twoDigits d ≡ datumText g
+    pub datum-two : (t || t′ || eqb n 8) ≡ true → printTwo d ≡ datumText g
     datum-two e = rw (b) (simp not-tenths (simp (simp not-tenths at (rw (p, q, a) at e))))
 
     module _ (e : (t || t′ || eqb n 8) ≡ false) (t″ : Bool) (r : t″ ≡ isOut g) where
-      pub datum-level : t″ ≡ true → (digit d ∷ []) ≡ datumText g
+      pub datum-level : t″ ≡ true → (lastDigit d ∷ []) ≡ datumText g
       datum-level l = rw (b) (simp (not-tenths, sym r ∙ l) (simp (simp not-tenths at (rw (p, q, a) at e))))
 
       pub datum-none : t″ ≡ false → [] ≡ datumText g

@@ -8,7 +8,7 @@ use native.Mathlib.Omega.{arith}
 use lib.Dec.{eqb}
 use lib.ListN.{length, length-append}
 use Rattle.base.specs.If.{if_then_else_}
-use Rattle.decimal.specs.Print.{digit, twoDigits, tenthsPrinted}
+use Rattle.decimal.specs.Print.{lastDigit, printTwo, printTenths}
 use Rattle.decimal.proofs.Theorems.{printed-length, two-length, tenths-length}
 use Rattle.drive.specs.declared.rates.RateUnit.{RateUnit}
 use Rattle.drive.specs.declared.rates.RateUnit.the-variants.{Um, Mm, Uh, Mh}
@@ -17,7 +17,7 @@ use Rattle.drive.specs.declared.syringe.VolumeUnit.the-variants.{Microlitre, Mi
 use Rattle.drive.specs.declared.directions.Direction.{Direction}
 use Rattle.drive.specs.declared.directions.Direction.the-variants.{Infuse, Withdraw}
 use Rattle.words.specs.Functions.{number, datum, takesPhase, takesCount, isOut}
-use Rattle.words.specs.Spelling.{datumText, rateUnitName, volumeUnitName, directionName}
+use Rattle.words.specs.Spelling.{datumText, rateLetters, volumeLetters, directionLetters}
 use Rattle.words.specs.declared.answers.Reply.{Reply}
 use Rattle.words.specs.declared.answers.Reply.the-variants as r
 use Rattle.words.specs.declared.answers.Said.{Said}
@@ -28,23 +28,23 @@ use Rattle.answer.specs.Answers.{bodyOf, framed, answerOf}
 use Rattle.answer.specs.Replies.{totalsText, dataOf}
 use Rattle.answer.proofs.Functions.{name-length}
 
-pub rate-unit-length : (unit : RateUnit) → length (rateUnitName unit) ≡ 2
+pub rate-unit-length : (unit : RateUnit) → length (rateLetters unit) ≡ 2
 rate-unit-length Um = refl
 rate-unit-length Mm = refl
 rate-unit-length Uh = refl
 rate-unit-length Mh = refl
 
-pub volume-unit-length : (unit : VolumeUnit) → length (volumeUnitName unit) ≡ 2
+pub volume-unit-length : (unit : VolumeUnit) → length (volumeLetters unit) ≡ 2
 volume-unit-length Microlitre = refl
 volume-unit-length Millilitre = refl
 
-pub direction-length : (d : Direction) → length (directionName d) ≡ 3
+pub direction-length : (d : Direction) → length (directionLetters d) ≡ 3
 direction-length Infuse = refl
 direction-length Withdraw = refl
 
 datum-choice :
     (tenths two one : Bool) (n : ℕ)
-    → length (if tenths then tenthsPrinted n else if two then twoDigits n else if one then digit n ∷ [] else []) ≤ 3
+    → length (if tenths then printTenths n else if two then printTwo n else if one then lastDigit n ∷ [] else []) ≤ 3
 datum-choice true two one n = omega (arith, tenths-length n)
 datum-choice false true one n = omega (arith, two-length n)
 datum-choice false false true n = omega arith

@@ -5,7 +5,7 @@ use lib.Dec.{leb}
 use lib.ListN.{length, drop}
 use Rattle.base.specs.If.{if_then_else_}
 use Rattle.base.specs.Text.{text}
-use Rattle.decimal.specs.Print.{twoDigits}
+use Rattle.decimal.specs.Print.{printTwo}
 use Rattle.words.specs.declared.answers.Said.{Said}
 use Rattle.words.specs.declared.answers.Said.the-variants as said
 use Rattle.answer.specs.Letters.{statusLetter, alarmLetter}
@@ -19,7 +19,7 @@ bodyOf (said.Answer status reply) = (statusLetter status ∷ []) ++ dataOf reply
 
 -- STX, the address as two digits, the body, ETX
 unfoldable pub framed : ℕ → List ℕ → List ℕ
-framed address body = (2 ∷ []) ++ twoDigits address ++ body ++ (3 ∷ [])
+framed address body = (2 ∷ []) ++ printTwo address ++ body ++ (3 ∷ [])
 
 -- where nothing is said, no byte is sent
 abbrev pub answerOf : ℕ → Said → List ℕ

@@ -1,6 +1,6 @@
 // The letters that stand for a status, for an alarm, for a unit and for a direction.
 ghost use mathlib.Core.Path.{_≡_};
-ghost use Rattle.words.specs.Spelling.{rateUnitName, volumeUnitName, directionName};
+ghost use Rattle.words.specs.Spelling.{rateLetters, volumeLetters, directionLetters};
 ghost use Rattle.answer.specs.Letters.{statusLetter, alarmLetter};
 use drive::Direction;
 use drive::RateUnit;
@@ -31,7 +31,7 @@ pub fn alarm_letter(alarm: Alarm) -> u8
 }
 
 pub fn rate_letters(unit: RateUnit) -> [u8; 2]
-    ensures { λ r. ⌜ r ≡ rateUnitName unit ⌝ }
+    ensures { λ r. ⌜ r ≡ rateLetters unit ⌝ }
 {
     match unit {
         RateUnit::Um => [b'U', b'M'],
@@ -42,7 +42,7 @@ pub fn rate_letters(unit: RateUnit) -> [u8; 2]
 }
 
 pub fn volume_letters(unit: VolumeUnit) -> [u8; 2]
-    ensures { λ r. ⌜ r ≡ volumeUnitName unit ⌝ }
+    ensures { λ r. ⌜ r ≡ volumeLetters unit ⌝ }
 {
     match unit {
         VolumeUnit::Microlitre => [b'U', b'L'],
@@ -51,7 +51,7 @@ pub fn volume_letters(unit: VolumeUnit) -> [u8; 2]
 }
 
 pub fn direction_letters(d: Direction) -> [u8; 3]
-    ensures { λ r. ⌜ r ≡ directionName d ⌝ }
+    ensures { λ r. ⌜ r ≡ directionLetters d ⌝ }
 {
     match d {
         Direction::Infuse => [b'I', b'N', b'F'],

@@ -4,7 +4,7 @@ ghost use mathlib.Core.List.{_++_};
 ghost use Prim.Native.Nat.{_+_, _≤_};
 ghost use lib.ListN.{length};
 ghost use Rattle.base.specs.Wrote.{Wrote};
-ghost use Rattle.decimal.specs.Print.{printed, twoDigits};
+ghost use Rattle.decimal.specs.Print.{print, printTwo};
 ghost use Rattle.words.specs.Spelling.{datumText};
 ghost use Rattle.answer.specs.Answers.{bodyOf};
 ghost use Rattle.answer.specs.Replies.{dataOf, functionText, totalsText};
@@ -75,7 +75,7 @@ fn totals(infused: u32, withdrawn: u32, unit: VolumeUnit, out: &mut [u8], at: us
 // A rate or a volume: the number and the letters of its unit.
 fn quantity(x: u32, unit: [u8; 2], out: &mut [u8], at: usize) -> usize
     requires { ⌜ at + 7 ≤ length (now out) ⌝ }
-    ensures { λ r. ⌜ Wrote (now (out .entry)) (now (out .exit)) at r (printed x ++ unit) ⌝ }
+    ensures { λ r. ⌜ Wrote (now (out .entry)) (now (out .exit)) at r (print x ++ unit) ⌝ }
 {
     let a = number(x, out, at);
     copy(out, a, &unit)
@@ -83,7 +83,7 @@ fn quantity(x: u32, unit: [u8; 2], out: &mut [u8], at: usize) -> usize
 
 fn number(x: u32, out: &mut [u8], at: usize) -> usize
     requires { ⌜ at + 5 ≤ length (now out) ⌝ }
-    ensures { λ r. ⌜ Wrote (now (out .entry)) (now (out .exit)) at r (printed x) ⌝ }
+    ensures { λ r. ⌜ Wrote (now (out .entry)) (now (out .exit)) at r (print x) ⌝ }
 {
     let text = decimal::print(x);
     copy(out, at, &text)
@@ -91,7 +91,7 @@ fn number(x: u32, out: &mut [u8], at: usize) -> usize
 
 pub fn two_digits(n: u8, out: &mut [u8], at: usize) -> usize
     requires { ⌜ at + 2 ≤ length (now out) ⌝ }
-    ensures { λ r. ⌜ Wrote (now (out .entry)) (now (out .exit)) at r (twoDigits n) ⌝ }
+    ensures { λ r. ⌜ Wrote (now (out .entry)) (now (out .exit)) at r (printTwo n) ⌝ }
 {
     let text = decimal::print_two(n);
     copy(out, at, &text)

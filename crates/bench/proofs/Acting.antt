@@ -13,10 +13,10 @@ use Rattle.base.proofs.Writing.{wrote-then}
 use Rattle.pump.specs.Calls.{byteReport, byteBuffer, pinCall}
 use Rattle.pump.specs.declared.holder.Pump.{Pump}
 use Rattle.pump.specs.declared.reports.Report.{Report}
-use Rattle.many.specs.Ticking.{ticked}
+use Rattle.many.specs.Ticking.{ticks}
 use Rattle.many.specs.declared.Ticked.{Ticked}
 use Rattle.script.specs.Places.{newline}
-use Rattle.bench.specs.Printing.{Prints, complaintLine, framed, countsLine}
+use Rattle.bench.specs.Printing.{Prints, complaintLine, unframed, countsLine}
 use Rattle.bench.specs.Rigs.{withPump, isRefused, zeros, reportOn, bufferOn, answerLine, sentRig, sentLine, sendRig, sendLines}
 use Rattle.bench.specs.Rigs.{finishRig, finishLines, setRig, setLines, runRig, runLines, rigAfter, printed}
 use Rattle.script.specs.declared.places.Act.{Act}
@@ -64,7 +64,7 @@ replied-told g b =
     (isRefused (reportOn (g .pump) b .refusal))
     (eqb (reportOn (g .pump) b .length) 0)
     (g .replied)
-    (framed (reportOn (g .pump) b .length) (bufferOn (g .pump) b))
+    (unframed (reportOn (g .pump) b .length) (bufferOn (g .pump) b))
 
 -- ---- one byte
 module _ (g : Rig) (b : ℕ) (r : Report) (e : r ≡ byteReport (g .pump) b zeros) where
@@ -156,7 +156,7 @@ set-acted g pin level r t a e q w z =
 -- ---- ticks
 pub run-acted :
     {l m : List ℕ} {i j : ℕ} (g : Rig) (n : ℕ) (t : Ticked) (a : Acted)
-    → t ≡ ticked n (g .pump)
+    → t ≡ ticks n (g .pump)
     → Prints l m i j 69 (if t .sound then countsLine n (t .infused) (t .withdrawn) else complaintLine)
     → a ≡ record { rig = holding (t .pump) (g .replied); end = j }
     → (a .rig ≡ runRig g n) × Prints l m i (a .end) 69 (runLines g n)

@@ -11,18 +11,18 @@ use Rattle.base.specs.If.{if_then_else_}
 use Rattle.base.specs.Text.{letter}
 use Rattle.pump.specs.Holder.{modelPhases, freshPump}
 use Rattle.pump.specs.declared.holder.Pump.{Pump}
-use Rattle.script.specs.Items.{Item, say, level, ticks, noItem, ticksItem, levelItem, tickItem, edgeItem, itemOf}
+use Rattle.script.specs.Items.{Item, say, level, elapse, noItem, ticksItem, levelItem, tickItem, edgeItem, itemOf}
 use Rattle.script.specs.Items.{valueOf, upToBlank, pastBlank}
 use Rattle.script.specs.Items.{linesOf}
 use Rattle.bench.specs.Effects.{itemLines, pumpAfter, allLines, pumpBehind, scriptOf}
-use Rattle.script.specs.Places.{inputEnd, after, kind}
+use Rattle.script.specs.Places.{inputEnd, afterSpot, kind}
 use Rattle.bench.specs.Rigs.{setRig, setLines, runRig, runLines}
-use Rattle.bench.specs.Scripts.{turned, played, says, closing, script}
+use Rattle.bench.specs.Scripts.{benchAfter, play, says, closed, script}
 use Rattle.bench.specs.declared.feeding.Bench.{Bench}
 use Rattle.script.specs.declared.places.Act.{Act}
 use Rattle.script.specs.declared.places.Act.the-variants.{Set, Run, Complain}
-use Rattle.script.specs.declared.places.Place.{Place}
-use Rattle.script.specs.declared.places.Place.the-variants.{Start}
+use Rattle.script.specs.declared.places.Spot.{Spot}
+use Rattle.script.specs.declared.places.Spot.the-variants.{Start}
 use Rattle.bench.specs.declared.rigs.Rig.{Rig}
 use Rattle.script.proofs.Cuts.{Cut, at-newline, at-both, at-return, at-other, split, lines-cut, rest-within}
 use Rattle.bench.proofs.Onward.{Outcome, outcome, first, atEnd, onward, onward-bench, onward-other, acted, bad-line}
@@ -34,7 +34,7 @@ use Rattle.bench.proofs.Texts.{textLines, textRig, text-line, text-pump
 abbrev pub idle : Pump → Rig
 idle p = record { pump = p; replied = false }
 
-abbrev standing : Rig → Place → Bench
+abbrev standing : Rig → Spot → Bench
 standing g q = record { rig = g; place = q }
 
 abbrev pub between : Pump → Bench
@@ -46,11 +46,11 @@ done p i r = first (itemLines p i) (onward (idle (pumpAfter p i)) Start r)
 
 module _ (p : Pump) (r : List ℕ) where
   -- ---- ticks
-  run-done : (n : ℕ) → acted (idle p) (Run n) r ≡ done p (ticks n) r
+  run-done : (n : ℕ) → acted (idle p) (Run n) r ≡ done p (elapse n) r
   unfolding runRig runLines
   run-done n = refl
 
-  run-or-none : (t : Bool) (n : ℕ) → acted (idle p) (if t then Run n else Complain) r ≡ done p (if t then ticks n else noItem) r
+  run-or-none : (t : Bool) (n : ℕ) → acted (idle p) (if t then Run n else Complain) r ≡ done p (if t then elapse n else noItem) r
   run-or-none true n = run-done n
   run-or-none false n = refl
 
@@ -117,7 +117,7 @@ first-byte p b {s} {l} {r} d false false false e f g = rw (e, f, g) (bad-line (i
 
 -- ---- a line: what its item prints, and then the next line with the pump that the item leaves
 pub line-itemised : (p : Pump) {b : ℕ} {s l r : List ℕ} → Cut (b ∷ s) l r → onward (idle p) Start (b ∷ s) ≡ done p (itemOf l) r
-unfolding onward after itemOf
+unfolding onward afterSpot itemOf
 line-itemised p (at-newline r) = refl
 line-itemised p (at-both r) = refl
 line-itemised p (at-return s l r h d) = bad-line (idle p) d
@@ -145,37 +145,37 @@ lines-itemised (suc k) p (b ∷ s) h =
 
 bench-itemised :
     (p : Pump) (s : List ℕ)
-    → first (says (between p) s) (atEnd (played (between p) s .rig) (inputEnd (played (between p) s .place)))
+    → first (says (between p) s) (atEnd (play (between p) s .rig) (inputEnd (play (between p) s .place)))
     ≡ outcome (allLines p (linesOf s)) (idle (pumpBehind p (linesOf s)))
 bench-itemised p s = onward-bench (between p) s ∙ lines-itemised (length s) p s (omega arith)
 
 -- ---- the whole output for every input is that of its lines
 pub itemised : (s : List ℕ) → script s ≡ scriptOf s
-unfolding script scriptOf closing
+unfolding script scriptOf closed
 itemised s = ap (λ (o : Outcome). o .lines) (bench-itemised (freshPump modelPhases) s)
 
 -- ---- and it comes in time: at each newline all is printed that the lines up to it ask for, and the pump is as they leave it
-newline-starts : (w : Bench) (s : List ℕ) → played w (s ++ (10 ∷ [])) .place ≡ Start
-unfolding played turned after
+newline-starts : (w : Bench) (s : List ℕ) → play w (s ++ (10 ∷ [])) .place ≡ Start
+unfolding play benchAfter afterSpot
 newline-starts w [] = refl
-newline-starts w (b ∷ s) = newline-starts (turned w b) s
+newline-starts w (b ∷ s) = newline-starts (benchAfter w b) s
 
 newline-itemised :
     (p : Pump) (s : List ℕ)
-    → outcome (says (between p) (s ++ (10 ∷ []))) (played (between p) (s ++ (10 ∷ [])) .rig)
+    → outcome (says (between p) (s ++ (10 ∷ []))) (play (between p) (s ++ (10 ∷ [])) .rig)
     ≡ outcome (allLines p (linesOf (s ++ (10 ∷ [])))) (idle (pumpBehind p (linesOf (s ++ (10 ∷ [])))))
 newline-itemised p s =
     let t : List ℕ = s ++ (10 ∷ []) in
-    let w : Bench = played (between p) t in
+    let w : Bench = play (between p) t in
     ap (λ (u : List ℕ). outcome u (w .rig)) (sym (append-nil (says (between p) t)))
-    ∙ ap (λ (q : Place). first (says (between p) t) (atEnd (w .rig) (inputEnd q))) (sym (newline-starts (between p) s))
+    ∙ ap (λ (q : Spot). first (says (between p) t) (atEnd (w .rig) (inputEnd q))) (sym (newline-starts (between p) s))
     ∙ bench-itemised p t
 
 pub newline-says : (p : Pump) (s : List ℕ) → says (between p) (s ++ (10 ∷ [])) ≡ allLines p (linesOf (s ++ (10 ∷ [])))
 newline-says p s = ap (λ (o : Outcome). o .lines) (newline-itemised p s)
 
 pub newline-played :
-    (p : Pump) (s : List ℕ) → played (between p) (s ++ (10 ∷ [])) ≡ between (pumpBehind p (linesOf (s ++ (10 ∷ []))))
+    (p : Pump) (s : List ℕ) → play (between p) (s ++ (10 ∷ [])) ≡ between (pumpBehind p (linesOf (s ++ (10 ∷ []))))
 newline-played p s =
-    ap (λ (q : Place). standing (played (between p) (s ++ (10 ∷ [])) .rig) q) (newline-starts (between p) s)
+    ap (λ (q : Spot). standing (play (between p) (s ++ (10 ∷ [])) .rig) q) (newline-starts (between p) s)
     ∙ ap (λ (o : Outcome). standing (o .left) Start) (newline-itemised p s)

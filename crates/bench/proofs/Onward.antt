@@ -13,15 +13,15 @@ use Rattle.base.proofs.Choices.{false-true}
 use Rattle.decimal.specs.Read.{isDigit}
 use Rattle.script.specs.Items.{atNewline}
 use Rattle.script.specs.Numbers.{grown, ticksAsked, levelAsked}
-use Rattle.script.specs.Places.{carriageReturn, newline, inputEnd, next, actOn, after}
+use Rattle.script.specs.Places.{carriageReturn, newline, inputEnd, next, actOn, afterSpot}
 use Rattle.script.specs.Places.{behindTick, inTicks, behindEdge, pinEnded, inPin, inLevel}
 use Rattle.bench.specs.Rigs.{rigAfter, printed}
-use Rattle.bench.specs.Scripts.{turned, turnSays, played, says}
+use Rattle.bench.specs.Scripts.{benchAfter, turnSays, play, says}
 use Rattle.bench.specs.declared.feeding.Bench.{Bench}
 use Rattle.script.specs.declared.places.Act.{Act}
 use Rattle.script.specs.declared.places.Act.the-variants.{Complain}
-use Rattle.script.specs.declared.places.Place.{Place}
-use Rattle.script.specs.declared.places.Place.the-variants.{Start, Tick, Ticks, Edge, Pin, Level, Returned, Bad}
+use Rattle.script.specs.declared.places.Spot.{Spot}
+use Rattle.script.specs.declared.places.Spot.the-variants.{Start, Tick, Ticks, Edge, Pin, Level, Returned, Bad}
 use Rattle.bench.specs.declared.rigs.Rig.{Rig}
 use Rattle.script.proofs.Cuts.{Cut, ended, at-newline, at-both, at-return, at-other}
 use Rattle.script.proofs.Parts.{ticksAct, levelAct, pinAct, tickAct, edgeAct}
@@ -45,20 +45,20 @@ atEnd g a = outcome (printed g a) (rigAfter g a)
 pub first-first : (u v : List ℕ) (o : Outcome) → first (u ++ v) o ≡ first u (first v o)
 first-first u v o = ap (λ (x : List ℕ). outcome x (o .left)) (append-assoc u v (o .lines))
 
-unfoldable pub onward : Rig → Place → List ℕ → Outcome
+unfoldable pub onward : Rig → Spot → List ℕ → Outcome
 onward g p [] = atEnd g (inputEnd p)
-onward g p (b ∷ s) = first (printed g (after p b .act)) (onward (rigAfter g (after p b .act)) (after p b .place) s)
+onward g p (b ∷ s) = first (printed g (afterSpot p b .act)) (onward (rigAfter g (afterSpot p b .act)) (afterSpot p b .place) s)
 
 pub onward-bench :
-    (w : Bench) (s : List ℕ) → first (says w s) (atEnd (played w s .rig) (inputEnd (played w s .place))) ≡ onward (w .rig) (w .place) s
-unfolding says played turned turnSays onward
+    (w : Bench) (s : List ℕ) → first (says w s) (atEnd (play w s .rig) (inputEnd (play w s .place))) ≡ onward (w .rig) (w .place) s
+unfolding says play benchAfter turnSays onward
 onward-bench w [] = refl
 onward-bench w (b ∷ s) =
     first-first
     (turnSays w b)
-    (says (turned w b) s)
-    (atEnd (played (turned w b) s .rig) (inputEnd (played (turned w b) s .place)))
-    ∙ ap (first (turnSays w b)) (onward-bench (turned w b) s)
+    (says (benchAfter w b) s)
+    (atEnd (play (benchAfter w b) s .rig) (inputEnd (play (benchAfter w b) s .place)))
+    ∙ ap (first (turnSays w b)) (onward-bench (benchAfter w b) s)
 
 -- a line is done, and the next one begins
 abbrev pub acted : Rig → Act → List ℕ → Outcome
@@ -71,16 +71,16 @@ acted-last g a = ap (λ (u : List ℕ). outcome u (rigAfter g a)) (sym (append-n
 
 -- a byte that is neither a newline nor a return
 pub onward-other :
-    (g : Rig) (p : Place) (b : ℕ) (s : List ℕ)
+    (g : Rig) (p : Spot) (b : ℕ) (s : List ℕ)
     → eqb b newline ≡ false
     → eqb b carriageReturn ≡ false
     → onward g p (b ∷ s) ≡ first (printed g (actOn p b)) (onward (rigAfter g (actOn p b)) (next p b) s)
-unfolding onward after
+unfolding onward afterSpot
 onward-other g p b s e f = rw (e, f)
 
 -- ---- a line that is no item
 pub bad-line : (g : Rig) {s l r : List ℕ} → Cut s l r → onward g Bad s ≡ acted g Complain r
-unfolding onward after
+unfolding onward afterSpot
 bad-line g ended = refl
 bad-line g (at-newline r) = refl
 bad-line g (at-both r) = refl
@@ -90,7 +90,7 @@ bad-line g (at-other b s l r e f d) = onward-other g Bad b s e f ∙ bad-line g 
 -- nor is one with a return in it that no newline follows
 returned-line :
     (g : Rig) (a : Act) {s l r : List ℕ} → atNewline s ≡ false → Cut s l r → onward g (Returned a) s ≡ acted g Complain r
-unfolding onward after
+unfolding onward afterSpot
 returned-line g a h ended = refl
 returned-line g a h (at-newline r) = false-true (sym h)
 returned-line g a h (at-both r) = refl
@@ -116,7 +116,7 @@ module _ (g : Rig) where
 
   pub ticks-line :
       (n m : ℕ) → Alike n m → {s l r : List ℕ} → Cut s l r → onward g (Ticks n) s ≡ acted g (ticksAct m l) r
-  unfolding onward after ticksAct
+  unfolding onward afterSpot ticksAct
   ticks-line n m k ended = ap (λ (a : Act). atEnd g a) (same-verdict k .0) ∙ acted-last g (ticksAsked m)
   ticks-line n m k (at-newline r) = ap (λ (a : Act). acted g a r) (same-verdict k .0)
   ticks-line n m k (at-both r) = ap (λ (a : Act). acted g a r) (same-verdict k .0)
@@ -151,7 +151,7 @@ module _ (g : Rig) (pin pin′ : ℕ) (like : Alike pin pin′) where
       → {s l r : List ℕ}
       → Cut s l r
       → onward g (Level pin some n) s ≡ acted g (levelAct pin′ some m l) r
-  unfolding onward after levelAct
+  unfolding onward afterSpot levelAct
   level-line some n m k ended =
       ap (λ (a : Act). atEnd g a) (same-verdict k .1 pin pin′ some like) ∙ acted-last g (levelAsked pin′ some m)
   level-line some n m k (at-newline r) = ap (λ (a : Act). acted g a r) (same-verdict k .1 pin pin′ some like)
@@ -202,7 +202,7 @@ module _ (g : Rig) where
       → {s l r : List ℕ}
       → Cut s l r
       → onward g (Pin some n) s ≡ acted g (pinAct some m l) r
-  unfolding onward after pinAct
+  unfolding onward afterSpot pinAct
   pin-line some n m k ended = refl
   pin-line some n m k (at-newline r) = refl
   pin-line some n m k (at-both r) = refl
@@ -235,7 +235,7 @@ module _ (g : Rig) where
   tick-byte b d false e = rw e (bad-line g d)
 
   pub tick-line : {s l r : List ℕ} → Cut s l r → onward g Tick s ≡ acted g (tickAct l) r
-  unfolding onward after
+  unfolding onward afterSpot
   tick-line ended = refl
   tick-line (at-newline r) = refl
   tick-line (at-both r) = refl
@@ -253,7 +253,7 @@ module _ (g : Rig) where
   edge-byte b d false e = rw e (bad-line g d)
 
   pub edge-line : {s l r : List ℕ} → Cut s l r → onward g Edge s ≡ acted g (edgeAct l) r
-  unfolding onward after
+  unfolding onward afterSpot
   edge-line ended = refl
   edge-line (at-newline r) = refl
   edge-line (at-both r) = refl

@@ -13,24 +13,24 @@ use borrow.Author.Tests.{ltb-true, ltb-false, leb-true, leb-false}
 use Rattle.base.specs.Wrote.{Wrote}
 use Rattle.base.proofs.Choices.{and-left, and-right}
 use Rattle.base.proofs.Writing.{wrote-as, wrote-then, wrote-none, wrote-length}
-use Rattle.script.specs.Places.{isDeed, after, inputEnd}
+use Rattle.script.specs.Places.{isDeed, afterSpot, inputEnd}
 use Rattle.bench.specs.Printing.{Prints}
 use Rattle.bench.specs.Rigs.{rigAfter, printed}
-use Rattle.bench.specs.Scripts.{turned, turnSays, played, says, closing, Feeds}
+use Rattle.bench.specs.Scripts.{benchAfter, turnSays, play, says, closed, Feeds}
 use Rattle.script.specs.declared.places.Act.{Act}
 use Rattle.bench.specs.declared.feeding.Bench.{Bench}
 use Rattle.bench.specs.declared.feeding.Fed.{Fed}
-use Rattle.script.specs.declared.places.Place.{Place}
+use Rattle.script.specs.declared.places.Spot.{Spot}
 use Rattle.script.specs.declared.places.Step.{Step}
 use Rattle.bench.specs.declared.rigs.Acted.{Acted}
 use Rattle.bench.specs.declared.rigs.Rig.{Rig}
 use Rattle.script.proofs.Deeds.{waits}
 
 -- ---- one byte
-module _ (w : Bench) (b : ℕ) (step : Step) (e : step ≡ after (w .place) b) where
+module _ (w : Bench) (b : ℕ) (step : Step) (e : step ≡ afterSpot (w .place) b) where
   pub turn-bench :
-      (r : Rig) → r ≡ rigAfter (w .rig) (step .act) → _≡_ {A = Bench} (record { rig = r; place = step .place }) (turned w b)
-  unfolding turned
+      (r : Rig) → r ≡ rigAfter (w .rig) (step .act) → _≡_ {A = Bench} (record { rig = r; place = step .place }) (benchAfter w b)
+  unfolding benchAfter
   turn-bench r f = rw (f, e)
 
   pub turn-wrote :
@@ -43,7 +43,7 @@ module _ (w : Bench) (b : ℕ) (step : Step) (e : step ≡ after (w .place) b) w
     still : rigAfter (w .rig) (step .act) ≡ w .rig
     still = ap (rigAfter (w .rig)) (waits (step .act) d)
 
-    pub wait-bench : _≡_ {A = Bench} (record { rig = w .rig; place = step .place }) (turned w b)
+    pub wait-bench : _≡_ {A = Bench} (record { rig = w .rig; place = step .place }) (benchAfter w b)
     wait-bench = turn-bench (w .rig) (sym still)
 
     pub wait-wrote : (l : List ℕ) (i : ℕ) → i ≤ length l → Wrote l l i i (turnSays w b)
@@ -55,47 +55,47 @@ module _ (w : Bench) (b : ℕ) (step : Step) (e : step ≡ after (w .place) b) w
 -- ---- the end of the input
 pub closing-wrote :
     (w : Bench) (a : Act) → a ≡ inputEnd (w .place) → {l m : List ℕ} {i j most : ℕ} → Prints l m i j most (printed (w .rig) a)
-    → Wrote l m i j (closing w)
-unfolding closing
+    → Wrote l m i j (closed w)
+unfolding closed
 closing-wrote w a e p = wrote-as (p .wrote) (ap (printed (w .rig)) e)
 
 -- ---- bytes and one byte more
-played-append : (w : Bench) (s t : List ℕ) → played w (s ++ t) ≡ played (played w s) t
-unfolding played
+played-append : (w : Bench) (s t : List ℕ) → play w (s ++ t) ≡ play (play w s) t
+unfolding play
 played-append w [] t = refl
-played-append w (b ∷ s) t = played-append (turned w b) s t
+played-append w (b ∷ s) t = played-append (benchAfter w b) s t
 
-says-append : (w : Bench) (s t : List ℕ) → says w (s ++ t) ≡ says w s ++ says (played w s) t
-unfolding played says
+says-append : (w : Bench) (s t : List ℕ) → says w (s ++ t) ≡ says w s ++ says (play w s) t
+unfolding play says
 says-append w [] t = refl
 says-append w (b ∷ s) t =
-    ap (λ (u : List ℕ). turnSays w b ++ u) (says-append (turned w b) s t)
-    ∙ sym (append-assoc (turnSays w b) (says (turned w b) s) (says (played (turned w b) s) t))
+    ap (λ (u : List ℕ). turnSays w b ++ u) (says-append (benchAfter w b) s t)
+    ∙ sym (append-assoc (turnSays w b) (says (benchAfter w b) s) (says (play (benchAfter w b) s) t))
 
-played-snoc : (w : Bench) (s : List ℕ) (b : ℕ) → played w (s ++ b ∷ []) ≡ turned (played w s) b
-unfolding played
+played-snoc : (w : Bench) (s : List ℕ) (b : ℕ) → play w (s ++ b ∷ []) ≡ benchAfter (play w s) b
+unfolding play
 played-snoc w s b = played-append w s (b ∷ [])
 
-says-snoc : (w : Bench) (s : List ℕ) (b : ℕ) → says w (s ++ b ∷ []) ≡ says w s ++ turnSays (played w s) b
+says-snoc : (w : Bench) (s : List ℕ) (b : ℕ) → says w (s ++ b ∷ []) ≡ says w s ++ turnSays (play w s) b
 unfolding says
-says-snoc w s b = says-append w s (b ∷ []) ∙ ap (λ (u : List ℕ). says w s ++ u) (append-nil (turnSays (played w s) b))
+says-snoc w s b = says-append w s (b ∷ []) ∙ ap (λ (u : List ℕ). says w s ++ u) (append-nil (turnSays (play w s) b))
 
 -- ---- i bytes of s were played from w, and what they print stands at the start of the buffer
 pub record Feeding (w : Bench) (s before out : List ℕ) (now : Bench) (i at : ℕ) : Type 0 where
   pub within : i ≤ length s
-  pub stands : now ≡ played w (take i s)
+  pub stands : now ≡ play w (take i s)
   pub wrote : Wrote before out 0 at (says w (take i s))
   pub same : length out ≡ length before
 
 pub feeding-none : (w : Bench) (s l : List ℕ) → Feeding w s l l w 0 0
-unfolding played says
+unfolding play says
 feeding-none w s l = record { within = omega arith; stands = refl; wrote = wrote-none l 0 (omega arith); same = refl }
 
 module _ {w : Bench} {s l m : List ℕ} {now : Bench} {i at : ℕ} (f : Feeding w s l m now i at) where
   pub feeding-more :
       {o : List ℕ} {next : Bench} {end : ℕ}
       → i < length s
-      → next ≡ turned now (getD s i 0)
+      → next ≡ benchAfter now (getD s i 0)
       → Wrote m o at end (turnSays now (getD s i 0))
       → Feeding w s l o next (i + 1) end
   feeding-more {o} {next} {end} h e v =
@@ -105,7 +105,7 @@ module _ {w : Bench} {s l m : List ℕ} {now : Bench} {i at : ℕ} (f : Feeding 
       record {
         within = omega arith;
         stands =
-            e ∙ ap (λ (x : Bench). turned x b) n ∙ sym (played-snoc w (take i s) b) ∙ ap (λ (t : List ℕ). played w t) (sym grown);
+            e ∙ ap (λ (x : Bench). benchAfter x b) n ∙ sym (played-snoc w (take i s) b) ∙ ap (λ (t : List ℕ). play w t) (sym grown);
         wrote =
             wrote-as
             (wrote-then (f .wrote) v)
@@ -116,7 +116,7 @@ module _ {w : Bench} {s l m : List ℕ} {now : Bench} {i at : ℕ} (f : Feeding 
       }
 
   -- by the act that the byte asks for, or where it asks for none
-  module _ (h : i < length s) (step : Step) (e : step ≡ after (now .place) (getD s i 0)) where
+  module _ (h : i < length s) (step : Step) (e : step ≡ afterSpot (now .place) (getD s i 0)) where
     pub feeding-act :
         {o : List ℕ} {r : Rig} {end most : ℕ}
         → r ≡ rigAfter (now .rig) (step .act)
@@ -136,7 +136,7 @@ module _ {w : Bench} {s l m : List ℕ} {now : Bench} {i at : ℕ} (f : Feeding 
 
 -- where two ways meet, with what each of them left
 pub feeding-as :
-    {w : Bench} {s l o o′ : List ℕ} {a a′ : Acted} {q : Place} {i : ℕ}
+    {w : Bench} {s l o o′ : List ℕ} {a a′ : Acted} {q : Spot} {i : ℕ}
     → o′ ≡ o
     → a′ ≡ a
     → Feeding w s l o (record { rig = a .rig; place = q }) i (a .end)
@@ -205,7 +205,7 @@ module _ (s : List ℕ) (from : ℕ) where
 pub record Plays (s : List ℕ) (w now : Bench) (from : ℕ) (out : List ℕ) : Type 0 where
   pub within : from ≤ length s
   pub short : length s < 18_446_744_073_709_551_616
-  pub rest : played now (drop from s) ≡ played w s
+  pub rest : play now (drop from s) ≡ play w s
   pub roomy : length out ≡ 65536
 
 pub plays-none :
@@ -213,9 +213,9 @@ pub plays-none :
 plays-none s w out h l = record { within = omega arith; short = h; rest = refl; roomy = l }
 
 module _ {s : List ℕ} {w now : Bench} {from : ℕ} {out : List ℕ} (p : Plays s w now from out) where
-  pub plays-all : length s ≤ from → now ≡ played w s
-  unfolding played
-  plays-all l = ap (λ (t : List ℕ). played now t) (sym (drop-of-length-le s l)) ∙ p .rest
+  pub plays-all : length s ≤ from → now ≡ play w s
+  unfolding play
+  plays-all l = ap (λ (t : List ℕ). play now t) (sym (drop-of-length-le s l)) ∙ p .rest
 
   module _ {after : List ℕ} {r : Fed} (f : Feeds now (part s from) out after r) where
     within-rest : from + r .taken ≤ length s
@@ -239,11 +239,11 @@ module _ {s : List ℕ} {w now : Bench} {from : ℕ} {out : List ℕ} (p : Plays
           short = p .short;
           rest =
               ap
-              (λ (x : Bench). played x (drop (from + taken) s))
-              (f .stands ∙ ap (λ (t : List ℕ). played now (take taken t)) (part-rest s from))
-              ∙ ap (λ (t : List ℕ). played (played now (take taken left)) t) (sym (drop-drop taken from s))
+              (λ (x : Bench). play x (drop (from + taken) s))
+              (f .stands ∙ ap (λ (t : List ℕ). play now (take taken t)) (part-rest s from))
+              ∙ ap (λ (t : List ℕ). play (play now (take taken left)) t) (sym (drop-drop taken from s))
               ∙ sym (played-append now (take taken left) (drop taken left))
-              ∙ ap (λ (t : List ℕ). played now t) (take-append-drop taken left)
+              ∙ ap (λ (t : List ℕ). play now t) (take-append-drop taken left)
               ∙ p .rest;
           roomy = wrote-length (f .wrote) ∙ p .roomy;
         }

@@ -12,7 +12,7 @@ use Rattle.base.specs.If.{if_then_else_}
 use Rattle.base.specs.Wrote.{Wrote}
 use Rattle.base.proofs.Writing.{wrote-as, wrote-then, wrote-none}
 use Rattle.io.specs.Digits.{digits, Fewest}
-use Rattle.bench.specs.Printing.{Prints, complaintLine, framed, decimal, countsLine}
+use Rattle.bench.specs.Printing.{Prints, complaintLine, unframed, decimal, countsLine}
 use Rattle.bench.proofs.Decimals.{decimal-few, counted}
 
 -- the same run under another name
@@ -20,16 +20,16 @@ pub prints-as : {l m : List ℕ} {i j most : ℕ} {v w : List ℕ} → Wrote l m
 prints-as a e h = record { wrote = wrote-as a e; few = h }
 
 -- ---- what lies between STX and ETX, and a newline
-pub framed-few : (n : ℕ) (answer : List ℕ) → length (framed n answer ++ 10 ∷ []) ≤ n - 2 + 1
-unfolding framed
+pub framed-few : (n : ℕ) (answer : List ℕ) → length (unframed n answer ++ 10 ∷ []) ≤ n - 2 + 1
+unfolding unframed
 framed-few n answer = simp (length-append, length-take) (omega arith)
 
 pub framed-line :
     {l m o : List ℕ} {i j k : ℕ} (n : ℕ) (answer : List ℕ)
     → Wrote l m i j (take (n - 1 - 1) (drop 1 answer))
     → Wrote m o j k (10 ∷ [])
-    → Wrote l o i k (framed n answer ++ 10 ∷ [])
-unfolding framed
+    → Wrote l o i k (unframed n answer ++ 10 ∷ [])
+unfolding unframed
 framed-line n answer a b =
     let e : n - 1 - 1 ≡ n - 2 = omega arith in
     wrote-then (wrote-as a (ap (λ (k : ℕ). take k (drop 1 answer)) e)) b
@@ -78,7 +78,7 @@ counts-prints n infused withdrawn a b c =
 -- ---- what a byte call has to say
 module _ (refused : Bool) (n : ℕ) (answer : List ℕ) where
   abbrev pub toSay : List ℕ
-  toSay = if refused then complaintLine else if eqb n 0 then [] else framed n answer ++ 10 ∷ []
+  toSay = if refused then complaintLine else if eqb n 0 then [] else unframed n answer ++ 10 ∷ []
 
   pub answer-refused : {l m : List ℕ} {i j : ℕ} → refused ≡ true → Wrote l m i j complaintLine → Prints l m i j 23 toSay
   answer-refused e w = prints-as w (rw e) (omega (arith, w .ends))
@@ -91,7 +91,7 @@ module _ (refused : Bool) (n : ℕ) (answer : List ℕ) where
       → refused ≡ false
       → (n ≡ 0 → ⊥)
       → n ≤ 24
-      → Wrote l m i j (framed n answer ++ 10 ∷ [])
+      → Wrote l m i j (unframed n answer ++ 10 ∷ [])
       → Prints l m i j 23 toSay
   answer-framed e s h w = prints-as w (rw e (sym (simp (ne-eqb n 0 s)))) (omega (arith, w .ends, framed-few n answer))
 

@@ -8,11 +8,11 @@ use Rattle.base.specs.If.{if_then_else_}
 use Rattle.base.proofs.Choices.{false-true}
 use Rattle.pump.specs.declared.holder.Pump.{Pump}
 use Rattle.script.specs.Items.{atNewline}
-use Rattle.bench.specs.Effects.{sent, answers, orEmptyLine}
-use Rattle.script.specs.Places.{carriageReturn, newline, after}
+use Rattle.bench.specs.Effects.{pumpSent, answers, orEmptyLine}
+use Rattle.script.specs.Places.{carriageReturn, newline, afterSpot}
 use Rattle.bench.specs.Rigs.{sentRig, sentLine, sendRig, sendLines, finishRig, finishLines}
 use Rattle.script.specs.declared.places.Act.the-variants.{Finish}
-use Rattle.script.specs.declared.places.Place.the-variants.{Start, Text}
+use Rattle.script.specs.declared.places.Spot.the-variants.{Start, Text}
 use Rattle.bench.specs.declared.rigs.Rig.{Rig}
 use Rattle.bench.proofs.Acting.{some, replied-told}
 use Rattle.script.proofs.Cuts.{Cut, ended, at-newline, at-both, at-return, at-other}
@@ -33,7 +33,7 @@ return-sent :
     → atNewline s ≡ false
     → Cut s l r
     → onward g (Text true) s ≡ first (sentLine g 13) (onward (sentRig g 13) (Text false) s)
-unfolding onward after sendRig sendLines finishRig finishLines
+unfolding onward afterSpot sendRig sendLines finishRig finishLines
 return-sent g h ended =
     first-first
     (sentLine g 13)
@@ -49,7 +49,7 @@ return-sent g h (at-other b s l r e f d) =
 
 pub text-line :
     (g : Rig) {s l r : List ℕ} → Cut s l r → onward g (Text false) s ≡ first (textLines g l) (onward (textRig g l) Start r)
-unfolding onward after sendRig sendLines textLines textRig
+unfolding onward afterSpot sendRig sendLines textLines textRig
 text-line g ended = acted-last g (Finish false)
 text-line g (at-newline r) = refl
 text-line g (at-both r) = refl
@@ -64,8 +64,8 @@ text-line g (at-other b s l r e f d) =
 
 -- ---- the pump in the end
 pub text-pump :
-    (g : Rig) (l : List ℕ) → textRig g l ≡ record { pump = sent (g .pump) (l ++ (carriageReturn ∷ [])); replied = false }
-unfolding textRig sent finishRig sendRig sentRig
+    (g : Rig) (l : List ℕ) → textRig g l ≡ record { pump = pumpSent (g .pump) (l ++ (carriageReturn ∷ [])); replied = false }
+unfolding textRig pumpSent finishRig sendRig sentRig
 text-pump g [] = refl
 text-pump g (b ∷ l) = text-pump (sentRig g b) l
 

@@ -3,19 +3,19 @@
 use Prim.Native.Nat.{ℕ}
 use mathlib.Core.List.{List, [], _∷_, _++_}
 use Rattle.base.specs.If.{if_then_else_}
-use Rattle.many.specs.Ticking.{ticked}
+use Rattle.many.specs.Ticking.{ticks}
 use Rattle.pump.specs.Calls.{pinCall}
 use Rattle.pump.specs.Holder.{modelPhases, freshPump}
 use Rattle.pump.specs.declared.holder.Pump.{Pump}
-use Rattle.script.specs.Items.{Item, say, level, ticks, noItem, linesOf, itemOf}
+use Rattle.script.specs.Items.{Item, say, level, elapse, noItem, linesOf, itemOf}
 use Rattle.script.specs.Places.{carriageReturn, newline}
 use Rattle.bench.specs.Printing.{complaintLine, countsLine}
 use Rattle.bench.specs.Rigs.{isRefused, reportOn, bufferOn, answerLine}
 
 -- ---- bytes sent to the pump, one after the other: each answer is a line, and so is the `!` of a refused call
-unfoldable pub sent : Pump → List ℕ → Pump
-sent p [] = p
-sent p (b ∷ s) = sent (reportOn p b .pump) s
+unfoldable pub pumpSent : Pump → List ℕ → Pump
+pumpSent p [] = p
+pumpSent p (b ∷ s) = pumpSent (reportOn p b .pump) s
 
 unfoldable pub answers : Pump → List ℕ → List ℕ
 answers p [] = []
@@ -28,17 +28,17 @@ orEmptyLine (b ∷ s) = b ∷ s
 
 -- ---- what an item does: a text is sent with a return, a pin is set, ticks are run unless they are refused
 abbrev pub pumpAfter : Pump → Item → Pump
-pumpAfter p (say s) = sent p (s ++ (carriageReturn ∷ []))
+pumpAfter p (say s) = pumpSent p (s ++ (carriageReturn ∷ []))
 pumpAfter p (level pin high) = pinCall p pin high .pump
-pumpAfter p (ticks n) = ticked n p .pump
+pumpAfter p (elapse n) = ticks n p .pump
 pumpAfter p noItem = p
 
 -- ---- and what it prints
 abbrev pub itemLines : Pump → Item → List ℕ
 itemLines p (say s) = orEmptyLine (answers p (s ++ (carriageReturn ∷ [])))
 itemLines p (level pin high) = if isRefused (pinCall p pin high .refusal) then complaintLine else []
-itemLines p (ticks n) =
-    if ticked n p .sound then countsLine n (ticked n p .infused) (ticked n p .withdrawn) else complaintLine
+itemLines p (elapse n) =
+    if ticks n p .sound then countsLine n (ticks n p .infused) (ticks n p .withdrawn) else complaintLine
 itemLines p noItem = complaintLine
 
 -- ---- line by line: all that is printed, and the pump behind the last line

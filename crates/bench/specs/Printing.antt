@@ -12,8 +12,8 @@ abbrev pub complaintLine : List ℕ
 complaintLine = 33 ∷ 10 ∷ []
 
 -- what lies between STX and ETX of an answer of n bytes: all but its first byte and its last
-unfoldable pub framed : ℕ → List ℕ → List ℕ
-framed n answer = take (n - 2) (drop 1 answer)
+unfoldable pub unframed : ℕ → List ℕ → List ℕ
+unframed n answer = take (n - 2) (drop 1 answer)
 
 -- a count in decimal digits, without zeros in front: the last digit stands behind those of the tenth part
 unfoldable pub decimalBy : ℕ → ℕ → List ℕ

@@ -12,8 +12,8 @@ use Rattle.pump.specs.declared.holder.Pump.{Pump}
 use Rattle.pump.specs.declared.reports.Refusal.{Refusal}
 use Rattle.pump.specs.declared.reports.Report.{Report}
 use Rattle.script.specs.Places.{carriageReturn, newline}
-use Rattle.bench.specs.Printing.{complaintLine, framed, countsLine}
-use Rattle.many.specs.Ticking.{ticked}
+use Rattle.bench.specs.Printing.{complaintLine, unframed, countsLine}
+use Rattle.many.specs.Ticking.{ticks}
 use Rattle.script.specs.declared.places.Act.{Act}
 use Rattle.script.specs.declared.places.Act.the-variants.{Wait, Send, Finish, Set, Run, Complain}
 use Rattle.bench.specs.declared.rigs.Rig.{Rig}
@@ -44,7 +44,7 @@ unfoldable pub answerLine : Report → List ℕ → List ℕ
 answerLine r buffer =
     if isRefused (r .refusal)
     then complaintLine
-    else if eqb (r .length) 0 then [] else framed (r .length) buffer ++ (newline ∷ [])
+    else if eqb (r .length) 0 then [] else unframed (r .length) buffer ++ (newline ∷ [])
 
 -- ---- one byte sent
 unfoldable pub sentRig : Rig → ℕ → Rig
@@ -84,12 +84,12 @@ setLines g pin level = if isRefused (pinCall (g .pump) pin level .refusal) then 
 
 -- ---- `T n`: n ticks and the counts of their steps; ticks are refused where the state is not sound
 unfoldable pub runRig : Rig → ℕ → Rig
-runRig g n = withPump g (ticked n (g .pump) .pump)
+runRig g n = withPump g (ticks n (g .pump) .pump)
 
 unfoldable pub runLines : Rig → ℕ → List ℕ
 runLines g n =
-    if ticked n (g .pump) .sound
-    then countsLine n (ticked n (g .pump) .infused) (ticked n (g .pump) .withdrawn)
+    if ticks n (g .pump) .sound
+    then countsLine n (ticks n (g .pump) .infused) (ticks n (g .pump) .withdrawn)
     else complaintLine
 
 -- ---- every act: the rig after it, and what it prints

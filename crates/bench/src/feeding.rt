@@ -3,16 +3,16 @@ ghost use mathlib.Core.Path.{_≡_};
 ghost use Prim.Native.Nat.{_+_, _≤_};
 ghost use lib.ListN.{length};
 ghost use Rattle.base.specs.Wrote.{Wrote};
-ghost use Rattle.bench.specs.Scripts.{freshBench, closing, Feeds};
+ghost use Rattle.bench.specs.Scripts.{freshBench, closed, Feeds};
 use crate::rigs::Acted;
 use crate::rigs::ROOM;
 use crate::rigs::Rig;
-use script::Place;
+use script::Spot;
 
 // The rig, and where in a line the input stands.
 pub struct Bench {
     pub rig: Rig,
-    pub place: Place,
+    pub place: Spot,
 }
 
 // The bench after a part of the input, how much of it was taken, and where what it printed ends.
@@ -23,7 +23,7 @@ pub struct Fed {
 }
 
 impl Fed {
-    fn new(rig: Rig, place: Place, taken: usize, end: usize) -> Fed
+    fn new(rig: Rig, place: Spot, taken: usize, end: usize) -> Fed
         ensures { λ r. ⌜ r ≡ record { bench = record { rig = rig; place = place }; taken = taken; end = end } ⌝ }
     {
         Fed {
@@ -43,7 +43,7 @@ impl Bench {
     {
         Bench {
             rig: Rig::new(),
-            place: Place::Start,
+            place: Spot::Start,
         }
     }
 
@@ -72,7 +72,7 @@ impl Bench {
     // The end of the input.
     pub fn closed(self, out: &mut [u8]) -> usize
         requires { ⌜ 69 ≤ length (now out) ⌝ }
-        ensures { λ r. ⌜ Wrote (now (out .entry)) (now (out .exit)) 0 r (closing self) ⌝ }
+        ensures { λ r. ⌜ Wrote (now (out .entry)) (now (out .exit)) 0 r (closed self) ⌝ }
     {
         let place = self.place;
         let acted = self.rig.act(place.input_end(), out, 0);

@@ -8,7 +8,7 @@
 //   printing   lines, counts, the complaint
 //   feeding    the bytes of the input, one after the other, and its end
 ghost use mathlib.Core.Path.{_≡_};
-ghost use Rattle.bench.specs.Scripts.{played};
+ghost use Rattle.bench.specs.Scripts.{play};
 
 mod feeding;
 mod printing;
@@ -51,7 +51,7 @@ fn serve(bench: Bench) -> Served {
 
 // What `s` has to say, in writes as large as the buffer allows.
 fn play(bench: Bench, s: &[u8]) -> Bench
-    ensures { λ r. ⌜ r ≡ played bench (now (s .entry)) ⌝ }
+    ensures { λ r. ⌜ r ≡ play bench (now (s .entry)) ⌝ }
 {
     let mut fed = Fed {
         bench: bench,

@@ -7,7 +7,7 @@ ghost use lib.Dec.{eqb};
 ghost use lib.ListN.{length};
 ghost use Rattle.base.specs.If.{if_then_else_};
 ghost use Rattle.base.specs.Wrote.{Wrote};
-ghost use Rattle.bench.specs.Printing.{Prints, complaintLine, countsLine, decimal, framed};
+ghost use Rattle.bench.specs.Printing.{Prints, complaintLine, countsLine, decimal, unframed};
 use base::copy;
 use base::put;
 
@@ -16,7 +16,7 @@ pub fn answer_line(refused: bool, n: usize, answer: &[u8], out: &mut [u8], at: u
     requires { ⌜ (at + 23 ≤ length (now out)) × (length (now answer) ≡ 24) × ((n ≡ 0) ⊎ ((2 ≤ n) × (n ≤ 24))) ⌝ }
     ensures { λ r. ⌜
         Prints (now (out .entry)) (now (out .exit)) at r 23
-        (if refused then complaintLine else if eqb n 0 then [] else framed n (now (answer .entry)) ++ 10 ∷ [])
+        (if refused then complaintLine else if eqb n 0 then [] else unframed n (now (answer .entry)) ++ 10 ∷ [])
         ⌝ }
 {
     if refused {
@@ -81,7 +81,7 @@ pub fn complaint(out: &mut [u8], at: usize) -> usize
 // What lies between STX and ETX of an answer of `n` bytes, as a line of its own.
 fn framed_line(answer: &[u8], n: usize, out: &mut [u8], at: usize) -> usize
     requires { ⌜ (2 ≤ n) × (n ≤ length (now answer)) × (at + n ≤ length (now out) + 1) ⌝ }
-    ensures { λ r. ⌜ Wrote (now (out .entry)) (now (out .exit)) at r (framed n (now (answer .entry)) ++ 10 ∷ []) ⌝ }
+    ensures { λ r. ⌜ Wrote (now (out .entry)) (now (out .exit)) at r (unframed n (now (answer .entry)) ++ 10 ∷ []) ⌝ }
 {
     let etx = n - 1;
     let end = copy(out, at, &answer[1..etx]);

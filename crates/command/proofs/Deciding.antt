@@ -10,7 +10,7 @@ use denote.Enum.Declared.{tagOf}
 use types.Run.{OneOf, miss}
 use borrow.Author.Tests.{lt-leb}
 use Rattle.base.proofs.Choices.{and-false}
-use Rattle.drive.specs.Syringe.{leastDiameter, mostDiameter, diameter}
+use Rattle.drive.specs.Syringe.{leastDiameter, mostDiameter, isDiameter}
 use Rattle.words.specs.declared.answers.Reply.{Reply}
 use Rattle.words.specs.declared.commands.Command.{Command}
 use Rattle.words.specs.declared.functions.Function.{Function}
@@ -52,7 +52,7 @@ pub never-accepted :
     (s a b : Core) (x : ℕ) (operating : Bool)
     → mostDiameter < x
     → o.decide s a Keep (judgeDiameter operating x) ≡ o.decide s b Keep (judgeDiameter operating x)
-unfolding judgeDiameter diameter
+unfolding judgeDiameter isDiameter
 never-accepted s a b x true h = refl
 never-accepted s a b x false h = simp (lt-leb x mostDiameter h, and-false (leb leastDiameter x))
 

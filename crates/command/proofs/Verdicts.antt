@@ -3,7 +3,7 @@
 use Prim.Native.Nat.{ℕ}
 use mathlib.Core.Path.{_≡_, sym, ap, _∙_}
 use mathlib.Core.Bool.{Bool}
-use Rattle.drive.specs.Rates.{usable}
+use Rattle.drive.specs.Rates.{isUsable}
 use Rattle.drive.specs.declared.rates.RateUnit.{RateUnit}
 use Rattle.drive.specs.declared.syringe.Syringe.{Syringe}
 use Rattle.dispense.specs.declared.rates.Rate.{Rate}
@@ -16,8 +16,8 @@ module _ (r : Verdict) where
   in-range t u e q = e ∙ ap ifInRange q
 
   pub usable-in :
-      (d : Syringe) (x : ℕ) (unit v : RateUnit) (t : Bool) → r ≡ ifInRange t → t ≡ usable d x v → v ≡ unit → r ≡ ifInRange (usable d x unit)
-  usable-in d x unit v t e p q = e ∙ ap ifInRange p ∙ ap (λ (k : RateUnit). ifInRange (usable d x k)) q
+      (d : Syringe) (x : ℕ) (unit v : RateUnit) (t : Bool) → r ≡ ifInRange t → t ≡ isUsable d x v → v ≡ unit → r ≡ ifInRange (isUsable d x unit)
+  usable-in d x unit v t e p q = e ∙ ap ifInRange p ∙ ap (λ (k : RateUnit). ifInRange (isUsable d x k)) q
 
   pub judged-by : (d : Syringe) (x : ℕ) (rate k : Rate) → rate ≡ k → r ≡ judgeRate d x k → r ≡ judgeRate d x rate
   judged-by d x rate k e q = q ∙ ap (judgeRate d x) (sym e)

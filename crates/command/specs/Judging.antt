@@ -4,8 +4,8 @@ use Prim.Native.Nat.{ℕ}
 use mathlib.Core.Bool.{Bool, true, false, _&&_, not}
 use lib.Dec.{ltb, eqb}
 use Rattle.base.specs.If.{if_then_else_}
-use Rattle.drive.specs.Rates.{usable}
-use Rattle.drive.specs.Syringe.{diameter}
+use Rattle.drive.specs.Rates.{isUsable}
+use Rattle.drive.specs.Syringe.{isDiameter}
 use Rattle.drive.specs.declared.rates.RateUnit.{RateUnit}
 use Rattle.drive.specs.declared.syringe.Syringe.{Syringe}
 use Rattle.words.specs.Functions.{fits, isPhase, isFlow, isRamp, isRatePhase}
@@ -29,7 +29,7 @@ judgeIdle operating = if operating then NotApplicable else Accepted
 
 -- ---- DIA: not while operating; 0.1 to 50 mm
 unfoldable pub judgeDiameter : Bool → ℕ → Verdict
-judgeDiameter operating x = if operating then NotApplicable else ifInRange (diameter x)
+judgeDiameter operating x = if operating then NotApplicable else ifInRange (isDiameter x)
 
 -- ---- RAT
 abbrev pub isOwn : Units → Bool
@@ -46,7 +46,7 @@ unitOr (Given given) unit = given
 unfoldable pub judgeStored : Syringe → Phase → ℕ → Units → Verdict
 judgeStored y p x units =
     if isFlow (p .function)
-    then ifInRange (usable y x (unitOr units (p .unit)))
+    then ifInRange (isUsable y x (unitOr units (p .unit)))
     else if isRamp (p .function) && isOwn units
     then ifInRange (ltb 0 x)
     else NotApplicable
@@ -54,7 +54,7 @@ judgeStored y p x units =
 -- while operating: only an entered RAT phase under way, the next phase number not INC or DEC, no units; in the units of the current rate
 abbrev pub judgeRate : Syringe → ℕ → Rate → Verdict
 judgeRate y x NoRate = NotApplicable
-judgeRate y x (Current unit r) = ifInRange (usable y x unit)
+judgeRate y x (Current unit r) = ifInRange (isUsable y x unit)
 
 unfoldable pub judgeTuning : Run → Syringe → Phase → Function → ℕ → Units → Verdict
 judgeTuning r y p next x units =

@@ -23,7 +23,7 @@ use Rattle.dispense.specs.Ledgers.{totalOf}
 use Rattle.dispense.specs.declared.ledgers.Ledger.{Ledger}
 use Rattle.program.specs.Edges.{pinTwo, pinFour, pinSix, falls}
 use Rattle.program.specs.Runs.{isVisiting}
-use Rattle.program.specs.Statuses.{inHand, statusOf}
+use Rattle.program.specs.Statuses.{inHand, statusRun}
 use Rattle.program.specs.declared.state.Core.{Core}
 use Rattle.program.specs.declared.state.Place.{Place}
 use Rattle.command.specs.declared.obeying.Edit.{Edit}
@@ -41,8 +41,8 @@ use Rattle.pump.specs.declared.holder.Pump.{Pump}
 use Rattle.statement.specs.Facts.{coreOf, runOf, underWay}
 use Rattle.statement.specs.Histories.{Call, byteIn, pinAt, tickIn, bufferBefore}
 use Rattle.statement.specs.Outcomes as out
-use Rattle.statement.specs.Outcomes.{Outcome, outcomeOf, TurnedDown, Still, Ticked, tickAt, Edge, two, four, six, Levelled, withCore}
-use Rattle.statement.specs.Outcomes.{emptied, obeying, obeyed, Hears, collected, other-address, alarm-pending, reset, obeys, Does, Meets}
+use Rattle.statement.specs.Outcomes.{Outcome, outcomeOf, TurnedDown, Still, TickDone, tickAt, Edge, two, four, six, Levelled, pumpWithCore}
+use Rattle.statement.specs.Outcomes.{emptied, obeying, carriedOut, Hears, collected, other-address, alarm-pending, resets, obeys, Does, Meets}
 use Rattle.statement.proofs.Outcomes.{call-meets}
 use Rattle.statement.proofs.Placing.{placed-at}
 use Rattle.condition3.specs.Observations.{Event, eventOf, isTick, clears, ofWay}
@@ -156,7 +156,7 @@ levelled-quiet : (p : Pump) (pin level : ℕ) (o : Outcome) → Levelled p pin l
 unfolding clears
 levelled-quiet p pin level o l =
     let t = edge-turns p (l .is-high) pin (l .core) (l .edge) in
-    let q = withCore p (l .core) in
+    let q = pumpWithCore p (l .core) in
     still-quiet p (pinAt pin level) o q (l .still)
     (λ d. still-books p (pinAt pin level) o q (l .still) d (ap (λ (x : Ledger). totalOf x d) (t .ledger)) refl)
     (λ _. stays p q (t .turns) (t .syringe) (λ n. refl))
@@ -192,13 +192,13 @@ module _ (p : Pump) (b : ℕ) (buffer : List ℕ) (o : Outcome) where
     done-so = obeying p asked
 
     abbrev next : Pump
-    next = obeyed p asked .pump
+    next = carriedOut p asked .pump
 
     the-deed : Deed (coreOf p) (phaseAt (p .phases) (inHand (coreOf p))) asked done-so
     the-deed = deed (coreOf p) (phaseAt (p .phases) (inHand (coreOf p))) _ (phaseCount p) asked
 
-    next-device : next .device ≡ withCore (emptied p) (done-so .core) .device
-    next-device = edited-device (withCore (emptied p) (done-so .core)) (inHand (coreOf p)) (done-so .edit)
+    next-device : next .device ≡ pumpWithCore (emptied p) (done-so .core) .device
+    next-device = edited-device (pumpWithCore (emptied p) (done-so .core)) (inHand (coreOf p)) (done-so .edit)
 
     next-core : coreOf next ≡ done-so .core
     next-core = ap (λ (v : Device). v .core) next-device
@@ -229,12 +229,12 @@ module _ (p : Pump) (b : ℕ) (buffer : List ℕ) (o : Outcome) where
     stays-spared (goes-on t s v) =
         stays p next (subst (λ (x : Core). Turns (runOf p) (x .run)) (sym next-core) t)
         (ap (λ (x : Core). x .syringe) next-core ∙ s)
-        (edited-volumes (withCore (emptied p) (done-so .core)) (inHand (coreOf p)) (done-so .edit) v)
+        (edited-volumes (pumpWithCore (emptied p) (done-so .core)) (inHand (coreOf p)) (done-so .edit) v)
     stays-spared (ends h) = stays-none p next (ap (λ (x : Core). isVisiting (x .run .place .work)) next-core ∙ h)
 
-    obeyed-quiet : Tells (obeyed p asked) → Quiet p call o
+    obeyed-quiet : Tells (carriedOut p asked) → Quiet p call o
     obeyed-quiet (s, w) =
-        let n = w ∙ answer-around 0 (statusOf (runOf next) (hereOf next .direction)) (done-so .reply) in
+        let n = w ∙ answer-around 0 (statusRun (runOf next) (hereOf next .direction)) (done-so .reply) in
         still-quiet p call o next s (λ d. books-left d s n (the-deed .left d)) (λ calm. stays-spared (the-deed .spares calm))
 
   -- ---- what a byte makes the pump say
@@ -251,7 +251,7 @@ module _ (p : Pump) (b : ℕ) (buffer : List ℕ) (o : Outcome) where
       (ne-eqb (o .report .length) 5 (λ q. absurd (omega (arith, q, w, framed-length 0 (bodyOf (said.Alarm a)))))))
       (λ d. refl)
       (stays p (l .pump) (keeps refl) refl (λ n. refl))
-  heard-quiet l (reset e z h r) t = obeyed-quiet e z (subst (λ c. Tells (obeyed p c)) (sym r) t)
+  heard-quiet l (resets e z h r) t = obeyed-quiet e z (subst (λ c. Tells (carriedOut p c)) (sym r) t)
   heard-quiet l (obeys e z h) t = obeyed-quiet e z t
 
 -- ---- a call that is no tick
@@ -264,11 +264,11 @@ call-quiet p call h = go call h (outcomeOf p call) (call-meets p call)
     does tickIn h o k = false-true (sym h)
 
     go : (c : Call) → isTick c ≡ false → (o : Outcome) → Meets p c o → Quiet p c o
-    go c h o (out.refused x r t) = turned-quiet p c x o t
+    go c h o (out.turned-down x r t) = turned-quiet p c x o t
     go c h o (out.accepted n k) = does c h o k
 
 -- ---- every call and the total of d
-ticked-books : (d : Direction) (p : Pump) (o : Outcome) → Ticked p o → Books d (seen p tickIn o)
+ticked-books : (d : Direction) (p : Pump) (o : Outcome) → TickDone p o → Books d (seen p tickIn o)
 unfolding clears
 ticked-books d p o t =
     ap (total d) (t .new-state)
@@ -284,5 +284,5 @@ call-books d p (pinAt pin level) = call-quiet p (pinAt pin level) refl .books d
 call-books d p tickIn = go (call-meets p tickIn)
   where
     go : Meets p tickIn (outcomeOf p tickIn) → Books d (eventOf p tickIn)
-    go (out.refused x r t) = turned-quiet p tickIn x (outcomeOf p tickIn) t .books d
+    go (out.turned-down x r t) = turned-quiet p tickIn x (outcomeOf p tickIn) t .books d
     go (out.accepted n k) = ticked-books d p (outcomeOf p tickIn) k

@@ -4,7 +4,7 @@ use Prim.Native.Nat.{ℕ, _+_, _≤_, _<_}
 use mathlib.Core.Path.{_≡_, sym, ap, _∙_}
 use mathlib.Core.Bool.{true, false}
 use native.Mathlib.Omega.{arith}
-use Rattle.drive.specs.Syringe.{inFemtolitres, target}
+use Rattle.drive.specs.Syringe.{volumeInFl, stepTarget}
 use Rattle.dispense.specs.declared.visits.Visit.{Visit}
 use Rattle.program.specs.Runs.{isVisiting}
 use Rattle.program.specs.declared.state.Work.{Work}
@@ -12,15 +12,15 @@ use Rattle.program.specs.declared.state.Work.the-variants.{Entering, Visiting, 
 use Rattle.pump.specs.Holder.{hereOf}
 use Rattle.pump.specs.declared.holder.Pump.{Pump}
 use Rattle.statement.specs.Facts.{coreOf, underWay}
-use Rattle.condition3.specs.Observations.{Event, behindIt, begins, ends, works, stepsOf}
+use Rattle.condition3.specs.Observations.{Event, behindIt, begins, ends, works, stepsReported}
 use Rattle.condition3.specs.Condition.{InVisit}
 
 -- the volume of the phase in place, in femtolitres, and how many steps of it fit
 abbrev pub sizeOf : Pump → ℕ
-sizeOf p = inFemtolitres (coreOf p .syringe) (hereOf p .volume)
+sizeOf p = volumeInFl (coreOf p .syringe) (hereOf p .volume)
 
 abbrev pub aimOf : Pump → ℕ
-aimOf p = target (coreOf p .syringe) (hereOf p .volume)
+aimOf p = stepTarget (coreOf p .syringe) (hereOf p .volume)
 
 -- the volume of the phase in place, and the diameter, are what they were
 pub record Alike (p q : Pump) : Type 0 where
@@ -34,12 +34,12 @@ Stays p q = (v : Visit) → underWay q ≡ Visiting v → (underWay p ≡ Visiti
 -- ---- what an event can do
 pub data Told (e : Event) : Type 0 where
   -- no visit begins or ends, and no step is given
-  rests : begins e ≡ false → ends e ≡ false → stepsOf e ≡ 0 → Stays (e .before) (behindIt e) → Told e
+  rests : begins e ≡ false → ends e ≡ false → stepsReported e ≡ 0 → Stays (e .before) (behindIt e) → Told e
   -- a visit begins
   opens :
       begins e ≡ true
       → ends e ≡ false
-      → stepsOf e ≡ 0
+      → stepsReported e ≡ 0
       → ((v : Visit) → underWay (behindIt e) ≡ Visiting v → v .given ≡ 0)
       → Alike (e .before) (behindIt e)
       → Told e
@@ -47,7 +47,7 @@ pub data Told (e : Event) : Type 0 where
   passes :
       begins e ≡ true
       → ends e ≡ true
-      → stepsOf e ≡ 0
+      → stepsReported e ≡ 0
       → 0 < sizeOf (e .before)
       → aimOf (e .before) ≡ 0
       → isVisiting (underWay (behindIt e)) ≡ false
@@ -61,7 +61,7 @@ pub data Told (e : Event) : Type 0 where
       → begins e ≡ false
       → ends e ≡ false
       → Alike (e .before) (behindIt e)
-      → (0 < sizeOf (e .before) → (u .given ≡ v .given + stepsOf e) × (v .given + stepsOf e ≤ aimOf (e .before)))
+      → (0 < sizeOf (e .before) → (u .given ≡ v .given + stepsReported e) × (v .given + stepsReported e ≤ aimOf (e .before)))
       → Told e
   -- a visit ends of itself
   finishes :
@@ -72,7 +72,7 @@ pub data Told (e : Event) : Type 0 where
       → begins e ≡ false
       → ends e ≡ true
       → 0 < sizeOf (e .before)
-      → v .given + stepsOf e ≡ aimOf (e .before)
+      → v .given + stepsReported e ≡ aimOf (e .before)
       → Told e
 
 -- steps are given in the last two alone

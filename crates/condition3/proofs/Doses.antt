@@ -20,7 +20,7 @@ use Rattle.statement.specs.Histories.{Call, byteIn, pinAt, tickIn, reportAfter,
 use Rattle.statement.proofs.Always.{call-whole}
 use Rattle.statement.proofs.Soundness.{sound-facts}
 use Rattle.statement.proofs.Wholes.{fresh-whole}
-use Rattle.condition3.specs.Observations.{Event, eventOf, trace, Every, noted, isTick, begins, ends, stepsOf, Dose, seen, doses}
+use Rattle.condition3.specs.Observations.{Event, eventOf, trace, Every, noted, isTick, begins, ends, stepsReported, Dose, seen, doses}
 use Rattle.condition3.specs.Observations.{stepsIn, stepsGiven}
 use Rattle.condition3.specs.Condition.{Fits, Newest, InVisit, Present}
 use Rattle.condition3.proofs.Following.{follows, every-event}
@@ -38,7 +38,7 @@ calm : (p : Pump) → Whole p → Calm (runOf p)
 calm p w alarm m = ap isVisiting (sound-facts p (w .sound) .stopped alarm m .no-work)
 
 told-still : (p : Pump) (c : Call) → Whole p → isTick c ≡ false → Told (eventOf p c)
-unfolding begins ends stepsOf
+unfolding begins ends stepsReported
 told-still p c w h =
     let q = call-quiet p c h in
     rests (rw h refl) (rw h refl) (omega (arith, q .none-infused, q .none-withdrawn)) (q .stays (calm p w))
@@ -73,7 +73,7 @@ sums p ws [] a = sym (add-zero (stepsIn ws))
 sums p ws (c ∷ cs) a =
     sums (reportAfter p c .pump) (seen ws (eventOf p c)) cs (call-keeps p ws c a)
     ∙ ap (λ (n : ℕ). n + stepsGiven (trace (reportAfter p c .pump) cs)) (sum-seen (eventOf p c) ws a (told p c (a .whole)))
-    ∙ add-assoc (stepsIn ws) (stepsOf (eventOf p c)) (stepsGiven (trace (reportAfter p c .pump) cs))
+    ∙ add-assoc (stepsIn ws) (stepsReported (eventOf p c)) (stepsGiven (trace (reportAfter p c .pump) cs))
 
 none-in : stepsIn [] ≡ 0
 unfolding stepsIn

@@ -10,7 +10,7 @@ use native.Mathlib.Omega.{arith}
 use lib.Dec.{ltb, eqb}
 use borrow.Author.Tests.{ltb-true, eqb-true}
 use Rattle.base.proofs.Choices.{and-left, and-right, and-false}
-use Rattle.drive.specs.Syringe.{inFemtolitres, volumeUnit}
+use Rattle.drive.specs.Syringe.{volumeInFl, volumeUnit}
 use Rattle.drive.specs.declared.syringe.Syringe.{Syringe}
 use Rattle.drive.proofs.Bounds.{thousandth-ge}
 use Rattle.words.specs.Functions.{isBeep, isRatePhase, pauseTicks}
@@ -41,7 +41,7 @@ use Rattle.pump.specs.declared.holder.Pump.{Pump}
 use Rattle.pump.specs.declared.reports.Refusal.the-variants.{Accepted}
 use Rattle.statement.specs.Facts.{coreOf, runOf, underWay}
 use Rattle.statement.specs.Histories.{tickIn}
-use Rattle.condition3.specs.Observations.{Event, begins, ends, works, stepsOf}
+use Rattle.condition3.specs.Observations.{Event, begins, ends, works, stepsReported}
 use Rattle.condition3.proofs.Calls.{stays-none}
 use Rattle.condition3.proofs.Catalogue.{sizeOf, aimOf, Told, rests, opens, passes, visit-is}
 
@@ -85,7 +85,7 @@ module _ (p : Pump) (t : Moved) where
       → isVisiting (behind .place .work) ≡ false
       → t .infused + t .withdrawn ≡ 0
       → Told (moved p t)
-  unfolding ends stepsOf
+  unfolding ends stepsReported
   idles h b k n = rests b (simp (h, b, and-false)) n (stays-none p _ k)
 
 -- ---- what entering a phase makes of the program: a rate phase goes by the rate that it gives, and any other leaves no visit under way
@@ -121,7 +121,7 @@ module _ (r : Run) (pins : Pins) (d : Syringe) (p : Phase) where
 
 -- ---- a running program at a phase that is not entered
 size-above : (p : Pump) → 0 < hereOf p .volume → 0 < sizeOf p
-unfolding inFemtolitres
+unfolding volumeInFl
 size-above p h = omega (arith, mul-le-mul h (thousandth-ge (volumeUnit (coreOf p .syringe))))
 
 module _ (p : Pump) (running : runOf p .mode ≡ Running) (fresh : underWay p ≡ Entering) (output beep : Bool) where
@@ -140,7 +140,7 @@ module _ (p : Pump) (running : runOf p .mode ≡ Running) (fresh : underWay p �
     begins-here t e = begins-by p (entry t) Running Entering true running fresh pumps ∙ ap isRunning (e ∙ running)
 
     told-begun : (rate : Rate) → Tells (beginVisit (withRate (runOf p) rate) (coreOf p .syringe) (hereOf p))
-    unfolding beginVisit stepsOf
+    unfolding beginVisit stepsReported
     told-begun rate = by-test Tells (some && none) passed opened
       where
         r : Run

@@ -8,13 +8,13 @@ use Rattle.base.specs.Rows.{Gives}
 use Rattle.drive.specs.declared.directions.Direction.the-variants.{Infuse}
 use Rattle.pump.specs.Holder.{modelPhases, freshPump}
 use Rattle.statement.specs.Histories.{Call}
-use Rattle.condition3.specs.Observations.{trace, clears, volume, sinceCleared, begins, ends, stepsOf, seen, doses}
-use Rattle.condition3.specs.Sending.{line, lines, ticks}
+use Rattle.condition3.specs.Observations.{trace, clears, volume, sinceCleared, begins, ends, stepsReported, seen, doses}
+use Rattle.condition3.specs.Sending.{line, lines, ticksIn}
 use Rattle.condition3.proofs.Opening.{opened}
 
 -- ---- the document's example: 50 steps of 19,635,000 fl in 19 ticks, and one tick more to stop
 abbrev dispensed : ℕ → List Call
-dispensed n = lines ("" ∷ "RAT200MH" ∷ "VOL1" ∷ "RUN" ∷ []) ++ ticks n
+dispensed n = lines ("" ∷ "RAT200MH" ∷ "VOL1" ∷ "RUN" ∷ []) ++ ticksIn n
 
 abbrev infused : List Call → ℕ
 infused cs = volume Infuse (sinceCleared Infuse (trace (freshPump modelPhases) cs))
@@ -35,16 +35,16 @@ rows =
     ∷ []
 
 pub as-the-document : Gives infused rows
-unfolding opened ticks clears volume sinceCleared
+unfolding opened ticksIn clears volume sinceCleared
 as-the-document = refl
 
 -- ---- the same by the last phase of a pump of 99; one of fewer has no such phase, and both PHN and RUN are out of range
 abbrev inLast : List Call
-inLast = lines ("" ∷ "PHN99" ∷ "FUNRAT" ∷ "RAT200MH" ∷ "VOL1" ∷ "RUN99" ∷ []) ++ ticks 20
+inLast = lines ("" ∷ "PHN99" ∷ "FUNRAT" ∷ "RAT200MH" ∷ "VOL1" ∷ "RUN99" ∷ []) ++ ticksIn 20
 
 pub of-many-phases :
     Gives (λ (n : ℕ). volume Infuse (sinceCleared Infuse (trace (freshPump n) inLast))) ((99, 981_750_000) ∷ (98, 0) ∷ (41, 0) ∷ [])
-unfolding opened ticks clears volume sinceCleared
+unfolding opened ticksIn clears volume sinceCleared
 of-many-phases = refl
 
 -- ---- three visits to a RAT phase at 10 mm, where a step has 0.019635 microlitres: one of 1.000 microlitres runs to its end, one of 0.019
@@ -53,9 +53,9 @@ abbrev visited : List Call
 visited =
     dispensed 20
     ++ lines ("VOL0.019" ∷ "RUN" ∷ [])
-    ++ ticks 2
+    ++ ticksIn 2
     ++ lines ("VOL1.000" ∷ "RUN" ∷ [])
-    ++ ticks 5
+    ++ ticksIn 5
     ++ lines ("STP" ∷ "VOL2.000" ∷ [])
 
 -- the newest first
@@ -65,5 +65,5 @@ pub three-visits :
     ∷ record { volume = 19_000_000; v = 19_635_000; steps = 0; ended = true }
     ∷ record { volume = 1_000_000_000; v = 19_635_000; steps = 50; ended = true }
     ∷ [])
-unfolding opened ticks begins ends stepsOf seen doses
+unfolding opened ticksIn begins ends stepsReported seen doses
 three-visits = refl

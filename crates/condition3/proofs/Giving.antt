@@ -9,8 +9,8 @@ use mathlib.Core.Bool.{Bool, true, false}
 use native.Mathlib.Omega.{arith}
 use lib.Dec.{leb, eqb}
 use Rattle.base.specs.If.{if_then_else_}
-use Rattle.drive.specs.Rates.{hourly}
-use Rattle.drive.specs.Syringe.{stepVolume, threshold}
+use Rattle.drive.specs.Rates.{hourlyRate}
+use Rattle.drive.specs.Syringe.{stepVolume, stepThreshold}
 use Rattle.drive.specs.declared.directions.Direction.{Direction}
 use Rattle.drive.specs.declared.directions.Direction.the-variants.{Infuse, Withdraw}
 use Rattle.drive.specs.declared.syringe.Syringe.{Syringe}
@@ -29,7 +29,7 @@ use Rattle.program.specs.declared.state.Mode.the-variants.{Stopped, Paused, Run
 use Rattle.program.specs.declared.state.Run.{Run}
 use Rattle.program.specs.declared.state.Work.{Work}
 use Rattle.program.specs.declared.state.Work.the-variants.{Entering, Visiting, Pausing, Waiting}
-use Rattle.tick.specs.Ticks.{silent, entered, worked, workBy, tickBy, tickOf}
+use Rattle.tick.specs.Ticks.{silent, entered, worked, workBy, tickBy, tick}
 use Rattle.tick.specs.Working.{doseOf, giveSteps, workAt, workVisit}
 use Rattle.tick.specs.declared.Moved.{Moved}
 use Rattle.tick.specs.declared.working.Given.{Given}
@@ -116,7 +116,7 @@ module _ (d : Direction) (s : Core) (p : Phase) where
       → Gives d s way (worked s way (workAt (s .run) (s .ledger) size way v rate)) (ruledRate (totalOf (s .ledger) d) size v rate)
   unfolding giveSteps doseOf stepsOf dueOf
   visit-gives v NoRate = works-none s d way (s .run)
-  visit-gives v (Current unit r) = gives-unless-full s _ _ (stepsOf v (hourly r unit) (threshold size)) d way
+  visit-gives v (Current unit r) = gives-unless-full s _ _ (stepsOf v (hourlyRate r unit) (stepThreshold size)) d way
 
   work-gives : (w : Work) → Gives d s way (workBy s p w) (ruledWork (totalOf (s .ledger) d) size (s .run) w)
   unfolding entered workVisit
@@ -130,8 +130,8 @@ module _ (d : Direction) (s : Core) (p : Phase) where
   mode-gives Paused = gives-none s d way (silent s) refl refl refl
   mode-gives Running = work-gives (s .run .place .work)
 
-  pub tick-gives : Gives d s way (tickOf s p) (ruledMode (totalOf (s .ledger) d) size (s .run) (s .run .mode))
-  unfolding tickOf
+  pub tick-gives : Gives d s way (tick s p) (ruledMode (totalOf (s .ledger) d) size (s .run) (s .run .mode))
+  unfolding tick
   tick-gives = mode-gives (s .run .mode)
 
 -- ---- at most four
@@ -159,7 +159,7 @@ module _ (p : Pump) (w : Whole p) where
       (λ _. by-test (λ (n : ℕ). n ≤ 4) (eqb (v .target) 0) (λ _. due-few) (λ _. omega (arith, due-few)))
       (λ _. omega arith)
     where
-      due-few : due v (hourly r unit) (threshold bore) ≤ 4
+      due-few : due v (hourlyRate r unit) (stepThreshold bore) ≤ 4
       due-few = due-four bore r (v .store) unit (sound .ranges .diameter .0) (usable-iff bore r unit .1 u) (sound .visit v k .store-below)
 
   work-few : (x : ℕ) (work : Work) → underWay p ≡ work → ruledWork x bore (runOf p) work ≤ 4

@@ -7,7 +7,7 @@ use native.Mathlib.Nat.{zero-add, suc-add}
 use Rattle.pump.specs.declared.holder.Pump.{Pump}
 use Rattle.statement.specs.Histories.{Call, tickIn, reportAfter, after}
 use Rattle.condition3.specs.Observations.{Event, eventOf, trace}
-use Rattle.condition3.specs.Sending.{ticks}
+use Rattle.condition3.specs.Sending.{ticksIn}
 
 pub after-both : (p : Pump) (a b : List Call) → after p (a ++ b) ≡ after (after p a) b
 unfolding after
@@ -19,7 +19,7 @@ unfolding after trace
 trace-both p [] b = refl
 trace-both p (c ∷ a) b = ap (λ (es : List Event). eventOf p c ∷ es) (trace-both (reportAfter p c .pump) a b)
 
-pub ticks-both : (m n : ℕ) → ticks (m + n) ≡ ticks m ++ ticks n
-unfolding ticks
-ticks-both zero n = ap ticks (zero-add n)
-ticks-both (suc m) n = ap ticks (suc-add m n) ∙ ap (λ (cs : List Call). tickIn ∷ cs) (ticks-both m n)
+pub ticks-both : (m n : ℕ) → ticksIn (m + n) ≡ ticksIn m ++ ticksIn n
+unfolding ticksIn
+ticks-both zero n = ap ticksIn (zero-add n)
+ticks-both (suc m) n = ap ticksIn (suc-add m n) ∙ ap (λ (cs : List Call). tickIn ∷ cs) (ticks-both m n)

@@ -9,7 +9,7 @@ use native.Mathlib.Nat.{add-zero, mul-le-mul, le-refl}
 use native.Mathlib.Omega.{arith}
 use Rattle.base.specs.If.{if_then_else_}
 use Rattle.base.proofs.Choices.{false-true}
-use Rattle.drive.specs.Syringe.{stepVolume, inFemtolitres}
+use Rattle.drive.specs.Syringe.{stepVolume, volumeInFl}
 use Rattle.drive.proofs.Theorems.{target-fits}
 use Rattle.dispense.specs.declared.visits.Visit.{Visit}
 use Rattle.program.specs.Runs.{isVisiting}
@@ -20,7 +20,7 @@ use Rattle.pump.specs.declared.holder.Pump.{Pump}
 use Rattle.statement.specs.Facts.{coreOf, underWay}
 use Rattle.statement.specs.Histories.{Whole}
 use Rattle.statement.proofs.Soundness.{sound-facts}
-use Rattle.condition3.specs.Observations.{Event, Every, behindIt, begins, ends, stepsOf, Dose, newDose, counted, seen}
+use Rattle.condition3.specs.Observations.{Event, Every, behindIt, begins, ends, stepsReported, Dose, newDose, counted, seen}
 use Rattle.condition3.specs.Observations.{stepsIn}
 use Rattle.condition3.specs.Condition.{Fits, Newest, Present}
 use Rattle.condition3.proofs.Catalogue.{sizeOf, aimOf, Alike, Told, rests, opens, passes, gives, finishes, visit-is}
@@ -62,7 +62,7 @@ agree-fresh p w h = record { whole = w; fits = tt; link = λ v k. visiting-false
 -- ---- what the next page says, by what the event did
 seen-is :
     (ws : List Dose) (e : Event) (n : ℕ) (b o : Bool)
-    → stepsOf e ≡ n
+    → stepsReported e ≡ n
     → ends e ≡ b
     → begins e ≡ o
     → seen ws e ≡ counted n b (if o then newDose e ∷ ws else ws)
@@ -78,7 +78,7 @@ counted-none (w ∷ ws) = ap₂ with-steps (add-zero (w .steps)) (or-false (w .e
 
 -- ---- sizes
 size-alike : (p q : Pump) → Alike p q → sizeOf q ≡ sizeOf p
-size-alike p q a = ap₂ inFemtolitres (a .syringe) (a .volume)
+size-alike p q a = ap₂ volumeInFl (a .syringe) (a .volume)
 
 step-alike : (p q : Pump) → Alike p q → stepVolume (coreOf q .syringe) ≡ stepVolume (coreOf p .syringe)
 step-alike p q a = ap stepVolume (a .syringe)
@@ -197,19 +197,19 @@ keeps e ws a w (passes b x n h z q) =
       link = λ v k. visiting-false (behindIt e) q v k;
     })
 keeps e ws a w (gives v u y k q b x s g) =
-    let r = going-on (e .before) (behindIt e) v u (stepsOf e) (room (e .before) (a .whole)) s g ws (a .link v k) (a .fits) in
-    subst (Agree (behindIt e)) (sym (seen-is ws e (stepsOf e) false false refl x b))
+    let r = going-on (e .before) (behindIt e) v u (stepsReported e) (room (e .before) (a .whole)) s g ws (a .link v k) (a .fits) in
+    subst (Agree (behindIt e)) (sym (seen-is ws e (stepsReported e) false false refl x b))
     (record {
       whole = w;
       fits = r .0;
       link =
           λ i j.
-          subst (λ (z : Visit). Newest (Open (behindIt e) z) (counted (stepsOf e) false ws)) (visit-is (underWay (behindIt e)) u i q j)
+          subst (λ (z : Visit). Newest (Open (behindIt e) z) (counted (stepsReported e) false ws)) (visit-is (underWay (behindIt e)) u i q j)
           (r .1);
     })
 keeps e ws a w (finishes v y k q b x h g) =
-    let r = ending (e .before) v (stepsOf e) (room (e .before) (a .whole)) h g ws (a .link v k) (a .fits) in
-    subst (Agree (behindIt e)) (sym (seen-is ws e (stepsOf e) true false refl x b))
+    let r = ending (e .before) v (stepsReported e) (room (e .before) (a .whole)) h g ws (a .link v k) (a .fits) in
+    subst (Agree (behindIt e)) (sym (seen-is ws e (stepsReported e) true false refl x b))
     (record { whole = w; fits = r; link = λ v k. visiting-false (behindIt e) q v k })
 
 -- ---- and no step is lost
@@ -228,7 +228,7 @@ sum-new : (e : Event) (b : Bool) (ws : List Dose) → stepsIn (counted 0 b (newD
 unfolding stepsIn
 sum-new e b ws = omega arith
 
-pub sum-seen : (e : Event) (ws : List Dose) → Agree (e .before) ws → Told e → stepsIn (seen ws e) ≡ stepsIn ws + stepsOf e
+pub sum-seen : (e : Event) (ws : List Dose) → Agree (e .before) ws → Told e → stepsIn (seen ws e) ≡ stepsIn ws + stepsReported e
 sum-seen e ws a (rests b x n s) =
     ap stepsIn (seen-is ws e 0 false false n x b ∙ counted-none ws) ∙ omega (arith, n)
 sum-seen e ws a (opens b x n g s) =
@@ -236,6 +236,6 @@ sum-seen e ws a (opens b x n g s) =
 sum-seen e ws a (passes b x n h z q) =
     ap stepsIn (seen-is ws e 0 true true n x b) ∙ sum-new e true ws ∙ ap (λ (k : ℕ). stepsIn ws + k) (sym n)
 sum-seen e ws a (gives v u y k q b x s g) =
-    ap stepsIn (seen-is ws e (stepsOf e) false false refl x b) ∙ sum-under-way (e .before) v (stepsOf e) false ws (a .link v k)
+    ap stepsIn (seen-is ws e (stepsReported e) false false refl x b) ∙ sum-under-way (e .before) v (stepsReported e) false ws (a .link v k)
 sum-seen e ws a (finishes v y k q b x h g) =
-    ap stepsIn (seen-is ws e (stepsOf e) true false refl x b) ∙ sum-under-way (e .before) v (stepsOf e) true ws (a .link v k)
+    ap stepsIn (seen-is ws e (stepsReported e) true false refl x b) ∙ sum-under-way (e .before) v (stepsReported e) true ws (a .link v k)

@@ -8,7 +8,7 @@ use native.Mathlib.Omega.{arith}
 use lib.Dec.{eqb}
 use borrow.Author.Tests.{ne-eqb}
 use Rattle.base.specs.If.{if_then_else_}
-use Rattle.drive.specs.Syringe.{diameter}
+use Rattle.drive.specs.Syringe.{isDiameter}
 use Rattle.drive.specs.Directions.{reverse}
 use Rattle.drive.specs.declared.directions.Direction.{Direction}
 use Rattle.drive.specs.declared.directions.Direction.the-variants.{Infuse, Withdraw}
@@ -109,7 +109,7 @@ module _ (s : Core) (p : Phase) where
   unfolding setDiameter settle judgeDiameter
   diameter-deed x =
       decides (omega arith) (withSyringe (withRun s (settle (s .run))) (record { diameter = x })) Keep _ refl
-      (λ e calm. ends (settle-drops (s .run) calm (idle-by (isOperating (s .run)) (ifInRange (diameter x)) e)))
+      (λ e calm. ends (settle-drops (s .run) calm (idle-by (isOperating (s .run)) (ifInRange (isDiameter x)) e)))
 
   volume-idle : (t u : Bool) → (if t && not u then Accepted else NotApplicable) ≡ Accepted → u ≡ false
   volume-idle t false e = refl

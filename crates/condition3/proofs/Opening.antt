@@ -37,22 +37,22 @@ use Rattle.statement.specs.Histories as histories
 use Rattle.condition3.specs.Observations as observations
 
 unfoldable pub opened : ℕ
-unfolding read.isDigit read.isPoint read.plain read.digits read.points read.after read.numberFrom read.wellFormed read.thousandths
-    read.readOf written.writable short.joinedOf short.oneOf short.twoOf short.tenthsOf print.digit print.printed print.twoDigits
-    print.tenthsPrinted
-    rates.hourly rates.usable syringe.diameter syringe.stepVolume syringe.threshold syringe.volumeUnit syringe.inFemtolitres syringe.target
+unfolding read.isDigit read.isPoint read.plain read.digits read.points read.decimals read.numberFrom read.wellFormed read.inThousandths
+    read.read written.isWritable short.joined short.readOne short.readTwo short.readTenths print.lastDigit print.print print.printTwo
+    print.printTenths
+    rates.hourlyRate rates.isUsable syringe.isDiameter syringe.stepVolume syringe.stepThreshold syringe.volumeUnit syringe.volumeInFl syringe.stepTarget
     phases.powerUp phases.isSoundPhase loops.before loops.lps loops.newest loops.older loops.lop loops.lpe loops.allSound
     loops.noneBegunBy loops.allDiffer loops.isSoundLoops ledgers.isSoundLedger
     visits.dueOf visits.storeOf visits.stepsOf visits.givenOf visits.workedOf visits.isDone
-    characters.isReturn characters.isDropped characters.isLower characters.raised characters.arrivalOf characters.standing spelling.leads
-    spelling.isText names.nameOf names.argumentOf addresses.addressWidth addresses.addressOf addresses.behindAddress
+    characters.isReturn characters.isDropped characters.isLower characters.raised characters.arrivalOf characters.canStand spelling.leads
+    spelling.isText names.nameOf names.argumentOf addresses.addressWidth addresses.addressOf addresses.unaddressed
     arguments.diameterAsked arguments.volumeAsked arguments.unitsOf arguments.unitsAtEnd arguments.amountOf arguments.rateAsked
     arguments.headingOf arguments.directionAsked arguments.clearAsked arguments.phaseAsked arguments.runAsked arguments.unlessMore
-    functions.calledOf functions.pauseAsked functions.functionAsked commands.commandOf lines.withCharacter lines.afterByte
-    lines.allStanding lines.isSoundLine lines.addressIn lines.commandIn answers.framed answers.lengthIn answers.bufferAfter
+    functions.calledIn functions.pauseAsked functions.functionAsked commands.commandOf lines.withCharacter lines.afterByte
+    lines.allStand lines.isSoundLine lines.addressIn lines.commandIn answers.framed answers.lengthIn answers.bufferAfter
     entering.beginVisit entering.enterRate entering.enterPause entering.startLoop entering.passLoop entering.endLoop entering.jumpIf
     entering.armTrap entering.clearTrap entering.enter working.doseOf working.afterVisit working.giveSteps
-    working.workVisit working.workPause ticks.entered ticks.tickOf runs.fire statuses.statusOf control.runOn control.runFrom control.stopNow
+    working.workVisit working.workPause ticks.entered ticks.tick runs.fire statuses.statusRun control.runOn control.runFrom control.stopNow
     sound.isSoundVisit sound.isSoundRun sound.isSoundCore queries.storedRate queries.askRate queries.askVolume queries.askPhase queries.askTotals
     judging.judgeIdle judging.judgeDiameter judging.judgeStored judging.judgeTuning judging.judgeVolume judging.judgeDirection
     judging.judgePhase judging.judgeFunction obeying.settle obeying.setDiameter obeying.tune obeying.setRate obeying.choose

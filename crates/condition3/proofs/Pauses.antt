@@ -12,7 +12,7 @@ use Rattle.program.specs.Runs.{doing, goOn}
 use Rattle.program.specs.declared.state.Mode.the-variants.{Running}
 use Rattle.program.specs.declared.state.Work.{Work}
 use Rattle.program.specs.declared.state.Work.the-variants.{Pausing}
-use Rattle.tick.specs.Ticks.{workBy, tickBy, tickOf}
+use Rattle.tick.specs.Ticks.{workBy, tickBy, tick}
 use Rattle.tick.specs.Working.{workPause}
 use Rattle.tick.specs.declared.Moved.{Moved}
 use Rattle.pump.specs.Calls.{tickCall}
@@ -24,11 +24,11 @@ use Rattle.pump.specs.declared.reports.Report.{Report}
 use Rattle.pump.proofs.Kept.{sound-tick}
 use Rattle.statement.specs.Facts.{coreOf, runOf, underWay}
 use Rattle.statement.specs.Histories.{tickIn, after, Whole}
-use Rattle.statement.specs.Outcomes.{withCore}
+use Rattle.statement.specs.Outcomes.{pumpWithCore}
 use Rattle.statement.proofs.Always.{call-whole}
 use Rattle.statement.proofs.Soundness.{sound-iff}
 use Rattle.condition3.specs.Observations.{Event, Every, eventOf, trace}
-use Rattle.condition3.specs.Sending.{ticks}
+use Rattle.condition3.specs.Sending.{ticksIn}
 
 -- a sound pump that runs and is in a timed pause with so many ticks left
 pub record InPause (p : Pump) (left : ℕ) : Type 0 where
@@ -38,10 +38,10 @@ pub record InPause (p : Pump) (left : ℕ) : Type 0 where
 
 -- the same pump with another number of ticks left, and the same pump behind the pause
 abbrev pub leaving : Pump → ℕ → Pump
-leaving p left = withCore p (withRun (coreOf p) (doing (runOf p) (Pausing left)))
+leaving p left = pumpWithCore p (withRun (coreOf p) (doing (runOf p) (Pausing left)))
 
 abbrev pub behindPause : Pump → Pump
-behindPause p = withCore p (withRun (coreOf p) (goOn (runOf p)))
+behindPause p = pumpWithCore p (withRun (coreOf p) (goOn (runOf p)))
 
 -- an event that is a tick in a timed pause, and reports the next state and nothing else
 pub record Passing (e : Event) : Type 0 where
@@ -55,8 +55,8 @@ some-left p left h = (sound-iff p .0 (h .whole .sound)) .pause left (h .pausing)
 
 -- ---- one tick
 module _ (p : Pump) (left : ℕ) (h : InPause p left) where
-  works : tickCall p ≡ reported (withCore p (withRun (coreOf p) (workPause (runOf p) left))) 0
-  unfolding tickOf
+  works : tickCall p ≡ reported (pumpWithCore p (withRun (coreOf p) (workPause (runOf p) left))) 0
+  unfolding tick
   works =
       sound-tick p (h .whole .sound)
       ∙ ap (λ (m : Moved). movedBy p m Accepted)
@@ -79,7 +79,7 @@ module _ (p : Pump) (left : ℕ) (h : InPause p left) where
       }
 
   as-it-is : leaving p left ≡ p
-  as-it-is = ap (λ (w : Work). withCore p (withRun (coreOf p) (doing (runOf p) w))) (sym (h .pausing))
+  as-it-is = ap (λ (w : Work). pumpWithCore p (withRun (coreOf p) (doing (runOf p) w))) (sym (h .pausing))
 
   passes : Passing (eventOf p tickIn)
   passes =
@@ -90,43 +90,43 @@ module _ (p : Pump) (left : ℕ) (h : InPause p left) where
       }
 
 -- ---- many
-pub pause-goes-on : (p : Pump) (left n : ℕ) → InPause p left → n < left → after p (ticks n) ≡ leaving p (left - n)
-unfolding after ticks
+pub pause-goes-on : (p : Pump) (left n : ℕ) → InPause p left → n < left → after p (ticksIn n) ≡ leaving p (left - n)
+unfolding after ticksIn
 pause-goes-on p left zero h k = sym (as-it-is p left h) ∙ ap (leaving p) (all left)
   where
     all : (m : ℕ) → m ≡ m - 0
     all m = omega arith
 pause-goes-on p left (suc n) h k =
     let more : 1 < left = omega arith in
-    ap (λ (r : Report). after (r .pump) (ticks n)) (counts-down p left h more)
+    ap (λ (r : Report). after (r .pump) (ticksIn n)) (counts-down p left h more)
     ∙ pause-goes-on (leaving p (left - 1)) (left - 1) n (on p left h more) (omega arith)
     ∙ ap (leaving p) (fewer left n)
   where
     fewer : (m i : ℕ) → m - 1 - i ≡ m - suc i
     fewer m i = omega arith
 
-ends-after : (p : Pump) (left n : ℕ) → InPause p left → left ≡ suc n → after p (ticks (suc n)) ≡ behindPause p
-unfolding after ticks
+ends-after : (p : Pump) (left n : ℕ) → InPause p left → left ≡ suc n → after p (ticksIn (suc n)) ≡ behindPause p
+unfolding after ticksIn
 ends-after p left zero h e = ap (λ (r : Report). r .pump) (ends p left h (omega arith))
 ends-after p left (suc n) h e =
     let more : 1 < left = omega arith in
-    ap (λ (r : Report). after (r .pump) (ticks (suc n))) (counts-down p left h more)
+    ap (λ (r : Report). after (r .pump) (ticksIn (suc n))) (counts-down p left h more)
     ∙ ends-after (leaving p (left - 1)) (left - 1) n (on p left h more) (omega arith)
 
-pub pause-ends : (p : Pump) (left : ℕ) → InPause p left → after p (ticks left) ≡ behindPause p
+pub pause-ends : (p : Pump) (left : ℕ) → InPause p left → after p (ticksIn left) ≡ behindPause p
 pause-ends p left h = go left (some-left p left h) refl
   where
-    go : (n : ℕ) → 1 ≤ n → left ≡ n → after p (ticks n) ≡ behindPause p
+    go : (n : ℕ) → 1 ≤ n → left ≡ n → after p (ticksIn n) ≡ behindPause p
     go zero k e = absurd (omega arith)
     go (suc n) k e = ends-after p left n h e
 
-pub pause-passes : (p : Pump) (left n : ℕ) → InPause p left → n ≤ left → Every Passing (trace p (ticks n))
-unfolding trace ticks
+pub pause-passes : (p : Pump) (left n : ℕ) → InPause p left → n ≤ left → Every Passing (trace p (ticksIn n))
+unfolding trace ticksIn
 pause-passes p left zero h k = tt
 pause-passes p left (suc zero) h k = (passes p left h, tt)
 pause-passes p left (suc (suc n)) h k =
     let more : 1 < left = omega arith in (
       passes p left h,
-      subst (λ (r : Report). Every Passing (trace (r .pump) (ticks (suc n)))) (sym (counts-down p left h more))
+      subst (λ (r : Report). Every Passing (trace (r .pump) (ticksIn (suc n)))) (sym (counts-down p left h more))
           (pause-passes (leaving p (left - 1)) (left - 1) (suc n) (on p left h more) (omega arith)),
     )

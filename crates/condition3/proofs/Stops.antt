@@ -5,7 +5,7 @@ use mathlib.Core.Path.{_≡_, refl, sym, ap, _∙_, subst}
 use mathlib.Core.Bool.{true}
 use Rattle.program.specs.declared.state.Mode.the-variants.{Stopped}
 use Rattle.program.specs.declared.state.Pending.{Pending}
-use Rattle.tick.specs.Ticks.{tickBy, tickOf}
+use Rattle.tick.specs.Ticks.{tickBy, tick}
 use Rattle.tick.specs.declared.Moved.{Moved}
 use Rattle.pump.specs.Calls.{tickCall}
 use Rattle.pump.specs.Holder.{hereOf, isSoundPump}
@@ -17,7 +17,7 @@ use Rattle.pump.proofs.Kept.{sound-tick}
 use Rattle.statement.specs.Facts.{coreOf, runOf}
 use Rattle.statement.specs.Histories.{after}
 use Rattle.condition3.specs.Observations.{Event, Every, trace}
-use Rattle.condition3.specs.Sending.{ticks}
+use Rattle.condition3.specs.Sending.{ticksIn}
 
 -- an event that is a tick of a stopped pump, and reports that pump and nothing else
 pub record Standing (e : Event) : Type 0 where
@@ -27,19 +27,19 @@ pub record Standing (e : Event) : Type 0 where
 
 module _ (p : Pump) (sound : isSoundPump p ≡ true) (alarm : Pending) (stopped : runOf p .mode ≡ Stopped alarm) where
   pub stopped-tick : tickCall p ≡ reported p 0
-  unfolding tickOf
+  unfolding tick
   stopped-tick =
       sound-tick p sound ∙ ap (λ (m : Moved). movedBy p m Accepted) (ap (tickBy (coreOf p) (hereOf p)) stopped)
 
-  pub stopped-after : (n : ℕ) → after p (ticks n) ≡ p
-  unfolding after ticks
+  pub stopped-after : (n : ℕ) → after p (ticksIn n) ≡ p
+  unfolding after ticksIn
   stopped-after zero = refl
-  stopped-after (suc n) = ap (λ (r : Report). after (r .pump) (ticks n)) stopped-tick ∙ stopped-after n
+  stopped-after (suc n) = ap (λ (r : Report). after (r .pump) (ticksIn n)) stopped-tick ∙ stopped-after n
 
-  pub stopped-stands : (n : ℕ) → Every Standing (trace p (ticks n))
-  unfolding trace ticks
+  pub stopped-stands : (n : ℕ) → Every Standing (trace p (ticksIn n))
+  unfolding trace ticksIn
   stopped-stands zero = tt
   stopped-stands (suc n) = (
     record { alarm = alarm; before-stopped = stopped; nothing = stopped-tick },
-    subst (λ (r : Report). Every Standing (trace (r .pump) (ticks n))) (sym stopped-tick) (stopped-stands n),
+    subst (λ (r : Report). Every Standing (trace (r .pump) (ticksIn n))) (sym stopped-tick) (stopped-stands n),
   )

@@ -12,7 +12,7 @@ use Rattle.loops.specs.declared.Loop.{Loop}
 use Rattle.pump.specs.Holder.{modelPhases, freshPump}
 use Rattle.pump.specs.declared.holder.Pump.{Pump}
 use Rattle.statement.specs.Histories.{Call, byteIn, pinAt, tickIn, after, Model, Whole}
-use Rattle.statement.specs.Outcomes.{Outcome, outcomeOf, Ticked}
+use Rattle.statement.specs.Outcomes.{Outcome, outcomeOf, TickDone}
 use Rattle.statement.proofs.Always.{model, sound-after}
 use Rattle.statement.proofs.Doing.{does}
 use Rattle.statement.proofs.Soundness.{sound-facts}
@@ -29,7 +29,7 @@ use Rattle.condition3.proofs.Totals.{reports-ruled, totals-ruled, total
 quiet-few : (p : Pump) (c : Call) → Quiet p c (outcomeOf p c) → FourSteps (eventOf p c)
 quiet-few p c q = omega (arith, q .none-infused, q .none-withdrawn)
 
-ticked-few : (p : Pump) → Whole p → (o : Outcome) → Ticked p o → o .report .infused + o .report .withdrawn ≤ 4
+ticked-few : (p : Pump) → Whole p → (o : Outcome) → TickDone p o → o .report .infused + o .report .withdrawn ≤ 4
 ticked-few p w o t = omega (arith, tick-few p w, t .infused, t .withdrawn)
 
 call-few : (p : Pump) (c : Call) → Whole p → FourSteps (eventOf p c)

@@ -17,7 +17,7 @@ use Rattle.pump.specs.Holder.{hereOf, freshPump, isSoundPump}
 use Rattle.pump.specs.declared.holder.Pump.{Pump}
 use Rattle.statement.specs.Facts.{coreOf}
 use Rattle.statement.specs.Histories.{Call, byteIn, pinAt, tickIn, reportAfter, after, Model, Whole}
-use Rattle.statement.specs.Outcomes.{Outcome, outcomeOf, Ticked, tickAt}
+use Rattle.statement.specs.Outcomes.{Outcome, outcomeOf, TickDone, tickAt}
 use Rattle.statement.proofs.Always.{call-whole, sound-after}
 use Rattle.statement.proofs.Doing.{does}
 use Rattle.statement.proofs.Wholes.{fresh-whole}
@@ -59,7 +59,7 @@ none-ruled d p c h = let q = call-quiet p c h in none-told d _ _ (q .none-infuse
 
 tick-ruled :
     (d : Direction) (p : Pump) (o : Outcome)
-    → Ticked p o
+    → TickDone p o
     → ofWay d (o .report .infused) (o .report .withdrawn) ≡ ruled d (total d p) p tickIn
 unfolding ruled
 tick-ruled d p o t =

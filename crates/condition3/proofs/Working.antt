@@ -8,8 +8,8 @@ use native.Mathlib.Omega.{arith}
 use lib.Dec.{ltb, leb, eqb}
 use borrow.Author.Tests.{ltb-true, leb-true, ne-eqb}
 use Rattle.base.proofs.Choices.{and-left, and-right}
-use Rattle.drive.specs.Rates.{hourly}
-use Rattle.drive.specs.Syringe.{threshold, inFemtolitres, volumeUnit, thousandth}
+use Rattle.drive.specs.Rates.{hourlyRate}
+use Rattle.drive.specs.Syringe.{stepThreshold, volumeInFl, volumeUnit, thousandth}
 use Rattle.drive.specs.declared.directions.Direction.{Direction}
 use Rattle.drive.specs.declared.directions.Direction.the-variants.{Infuse, Withdraw}
 use Rattle.drive.proofs.Bounds.{step-volume-ge}
@@ -29,7 +29,7 @@ use Rattle.program.specs.declared.state.Mode.the-variants.{Stopped, Paused, Run
 use Rattle.program.specs.declared.state.Run.{Run}
 use Rattle.program.specs.declared.state.Work.{Work}
 use Rattle.program.specs.declared.state.Work.the-variants.{Entering, Visiting, Pausing, Waiting}
-use Rattle.tick.specs.Ticks.{silent, worked, workBy, tickBy, tickOf}
+use Rattle.tick.specs.Ticks.{silent, worked, workBy, tickBy, tick}
 use Rattle.tick.specs.Working.{doseOf, afterVisit, giveSteps, workAt, workVisit, workPause}
 use Rattle.tick.specs.declared.Moved.{Moved}
 use Rattle.tick.specs.declared.working.Given.{Given}
@@ -40,7 +40,7 @@ use Rattle.statement.specs.Facts.{VisitFacts, Usable, coreOf, runOf, underWay}
 use Rattle.statement.specs.Histories.{Whole}
 use Rattle.statement.specs.Outcomes.{tickAt}
 use Rattle.statement.proofs.Soundness.{sound-facts}
-use Rattle.condition3.specs.Observations.{begins, ends, stepsOf}
+use Rattle.condition3.specs.Observations.{begins, ends, stepsReported}
 use Rattle.condition3.proofs.Calls.{stays-same, stays-none}
 use Rattle.condition3.proofs.Catalogue.{sizeOf, aimOf, Told, rests, gives, finishes}
 use Rattle.condition3.proofs.Entering.{moved, begins-by, ends-by, works-by, idles, told-entered}
@@ -61,7 +61,7 @@ target-kept v hour limit = refl
 
 -- ---- a phase with a volume, and one with a target
 size-volume : (p : Pump) → 0 < sizeOf p → hereOf p .volume ≡ 0 → ⊥
-unfolding inFemtolitres
+unfolding volumeInFl
 size-volume p h z = omega (arith, h, ap (λ (x : ℕ). x * thousandth (volumeUnit (coreOf p .syringe))) z)
 
 aim-size : (p : Pump) → Whole p → 0 < aimOf p → 0 < sizeOf p
@@ -73,7 +73,7 @@ aim-size p w h =
 -- ---- a working tick of a visit
 module _ (p : Pump) (w : Whole p) (running : runOf p .mode ≡ Running) (v : Visit) (k : underWay p ≡ Visiting v) where
   abbrev limit : ℕ
-  limit = threshold (coreOf p .syringe)
+  limit = stepThreshold (coreOf p .syringe)
 
   facts : VisitFacts (coreOf p .syringe) (hereOf p) (runOf p .rate) v
   facts = sound-facts p (w .sound) .visit v k
@@ -131,7 +131,7 @@ module _ (p : Pump) (w : Whole p) (running : runOf p .mode ≡ Running) (v : Vis
       giving t = record { core = withLedger (withRun (coreOf p) t) l; infused = i; withdrawn = j; beep = false }
 
       told-after : Told (moved p (giving (afterVisit (runOf p) next)))
-      unfolding afterVisit stepsOf
+      unfolding afterVisit stepsReported
       told-after = by-test (λ (t : Run). Told (moved p (giving t))) (isDone next) finished on
         where
           finished : isDone next ≡ true → Told (moved p (giving (goOn (runOf p))))
@@ -163,7 +163,7 @@ module _ (p : Pump) (w : Whole p) (running : runOf p .mode ≡ Running) (v : Vis
 
   -- no step: the alarm, which stops the pump
   told-stopped : Told (moved p (silent (withRun (coreOf p) (raise (runOf p) Program))))
-  unfolding stepsOf
+  unfolding stepsReported
   told-stopped =
       let t = silent (withRun (coreOf p) (raise (runOf p) Program)) in
       rests (none-begins t) (ends-by p t _ Entering _ refl refl refl) refl (stays-none p _ refl)
@@ -186,8 +186,8 @@ module _ (p : Pump) (w : Whole p) (running : runOf p .mode ≡ Running) (v : Vis
   told-visit NoRate u = absurd u
   told-visit (Current unit r) u =
       by-test (λ (g : Given). Told (moved p (worked (coreOf p) (hereOf p .direction) g)))
-      (leb (totalOf (coreOf p .ledger) (hereOf p .direction) + doseOf (coreOf p .syringe) v (hourly r unit)) mostTotal)
-      (λ _. told-steps (hourly r unit) (hereOf p .direction) _)
+      (leb (totalOf (coreOf p .ledger) (hereOf p .direction) + doseOf (coreOf p .syringe) v (hourlyRate r unit)) mostTotal)
+      (λ _. told-steps (hourlyRate r unit) (hereOf p .direction) _)
       (λ _. told-alarm (hereOf p .direction))
 
 -- ---- any tick
@@ -217,7 +217,7 @@ module _ (p : Pump) (w : Whole p) where
 
   -- one that does not run
   told-resting : isRunning (runOf p .mode) ≡ false → Told (moved p (silent (coreOf p)))
-  unfolding stepsOf begins ends
+  unfolding stepsReported begins ends
   told-resting h = rests (rw h refl) (rw h refl) refl (stays-same p)
 
   told-mode : (x : Mode) → runOf p .mode ≡ x → Told (moved p (tickBy (coreOf p) (hereOf p) x))
@@ -226,5 +226,5 @@ module _ (p : Pump) (w : Whole p) where
   told-mode Running e = told-work e (underWay p) refl
 
   pub told-tick : Told (moved p (tickAt p))
-  unfolding tickOf
+  unfolding tick
   told-tick = told-mode (runOf p .mode) refl

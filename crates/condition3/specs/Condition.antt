@@ -5,7 +5,7 @@ use Prim.Native.Nat.{ℕ, _+_, _*_, _≤_, _<_}
 use mathlib.Core.Path.{_≡_}
 use mathlib.Core.Bool.{true, false}
 use mathlib.Core.List.{List, [], _∷_}
-use Rattle.drive.specs.Syringe.{stepVolume, inFemtolitres}
+use Rattle.drive.specs.Syringe.{stepVolume, volumeInFl}
 use Rattle.drive.specs.declared.directions.Direction.{Direction}
 use Rattle.drive.specs.declared.directions.Direction.the-variants.{Infuse, Withdraw}
 use lib.ListN.{length, getD}
@@ -14,7 +14,7 @@ use Rattle.program.specs.Runs.{isVisiting}
 use Rattle.pump.specs.declared.holder.Pump.{Pump}
 use Rattle.pump.specs.Holder.{hereOf}
 use Rattle.statement.specs.Facts.{underWay, loopsOf}
-use Rattle.condition3.specs.Observations.{Event, Every, stepsTold, volume, sinceCleared, works, stepsOf, Dose, doses}
+use Rattle.condition3.specs.Observations.{Event, Every, stepsTold, volume, sinceCleared, works, stepsReported, Dose, doses}
 use Rattle.condition3.specs.Observations.{stepsIn, stepsGiven, ruled, addedUp, ruledVolume}
 
 -- ---- the steps of every report are those that the rules give, where x is the volume that they give up to it   (01, What a bidder's proof
@@ -31,11 +31,11 @@ pub record Fits (w : Dose) : Type 0 where
 
 -- ---- a step is given in a visit only: by an event that works one   (01, Ticks and phases, RAT: "Working tick")
 abbrev pub InVisit : Event → Type 0
-InVisit e = 0 < stepsOf e → works e ≡ true
+InVisit e = 0 < stepsReported e → works e ≡ true
 
 -- and that visit is the newest that is written down: of the phase in place, at the diameter set, and not ended
 pub record Present (p : Pump) (w : Dose) : Type 0 where
-  pub its-volume : w .volume ≡ inFemtolitres (p .device .core .syringe) (hereOf p .volume)
+  pub its-volume : w .volume ≡ volumeInFl (p .device .core .syringe) (hereOf p .volume)
   pub its-v : w .v ≡ stepVolume (p .device .core .syringe)
   pub not-ended : w .ended ≡ false
 

@@ -6,8 +6,8 @@ use mathlib.Core.Bool.{Bool, true, false, not, _&&_, _||_}
 use mathlib.Core.List.{List, [], _∷_}
 use lib.Dec.{leb, eqb}
 use Rattle.base.specs.If.{if_then_else_}
-use Rattle.drive.specs.Rates.{hourly}
-use Rattle.drive.specs.Syringe.{stepVolume, threshold, inFemtolitres}
+use Rattle.drive.specs.Rates.{hourlyRate}
+use Rattle.drive.specs.Syringe.{stepVolume, stepThreshold, volumeInFl}
 use Rattle.drive.specs.declared.directions.Direction.{Direction}
 use Rattle.drive.specs.declared.directions.Direction.the-variants.{Infuse, Withdraw}
 use Rattle.drive.specs.declared.syringe.Syringe.{Syringe}
@@ -142,8 +142,8 @@ unfoldable pub works : Event → Bool
 works e = tickTaken e && (isOperating (e .before .device .core .run) && isVisiting (underWay (e .before)))
 
 -- the steps that the event's report gives, in either direction   (01, Calls)
-unfoldable pub stepsOf : Event → ℕ
-stepsOf e = e .report .infused + e .report .withdrawn
+unfoldable pub stepsReported : Event → ℕ
+stepsReported e = e .report .infused + e .report .withdrawn
 
 -- a visit as it is written down: the phase's volume and the step volume, both in femtolitres, as they were at its entry, the steps given
 -- in it, and whether it ended of itself; one that did not was cut, or is under way   (01, Volumes; Ticks and phases, RAT)
@@ -156,15 +156,15 @@ pub record Dose : Type 0 where
 abbrev pub newDose : Event → Dose
 newDose e =
     record {
-      volume = inFemtolitres (e .before .device .core .syringe) (hereOf (e .before) .volume);
+      volume = volumeInFl (e .before .device .core .syringe) (hereOf (e .before) .volume);
       v = stepVolume (e .before .device .core .syringe);
       steps = 0;
       ended = false;
     }
 
 -- a new one where the event begins a visit
-abbrev pub opened : List Dose → Event → List Dose
-opened ws e = if begins e then newDose e ∷ ws else ws
+abbrev pub withNewDose : List Dose → Event → List Dose
+withNewDose ws e = if begins e then newDose e ∷ ws else ws
 
 -- the steps go to the newest, which is marked where it ends
 abbrev pub counted : ℕ → Bool → List Dose → List Dose
@@ -172,7 +172,7 @@ counted n b [] = []
 counted n b (w ∷ ws) = record { volume = w .volume; v = w .v; steps = w .steps + n; ended = w .ended || b } ∷ ws
 
 unfoldable pub seen : List Dose → Event → List Dose
-seen ws e = counted (stepsOf e) (ends e) (opened ws e)
+seen ws e = counted (stepsReported e) (ends e) (withNewDose ws e)
 
 -- the visits of a list of events, the newest first
 unfoldable pub doses : List Event → List Dose
@@ -185,7 +185,7 @@ stepsIn (w ∷ ws) = w .steps + stepsIn ws
 
 unfoldable pub stepsGiven : List Event → ℕ
 stepsGiven [] = 0
-stepsGiven (e ∷ es) = stepsOf e + stepsGiven es
+stepsGiven (e ∷ es) = stepsReported e + stepsGiven es
 
 -- ==== The steps that the rules give, from the state before a call and from what was given before. Only a working tick of a visit gives
 -- steps   (01, Ticks and phases, RAT; What a bidder's proof must pin: "the steps the rules give")
@@ -204,7 +204,7 @@ unlessFull x v n = if leb (x + n * v) 1_000_000_000_000_000_000 then n else 0
 -- at the current rate
 abbrev pub ruledRate : ℕ → Syringe → Visit → Rate → ℕ
 ruledRate x y v NoRate = 0
-ruledRate x y v (Current unit r) = unlessFull x (stepVolume y) (upTo v (due v (hourly r unit) (threshold y)))
+ruledRate x y v (Current unit r) = unlessFull x (stepVolume y) (upTo v (due v (hourlyRate r unit) (stepThreshold y)))
 
 -- in a visit alone: not at entry, in a timed pause or in a trigger wait
 abbrev pub ruledWork : ℕ → Syringe → Run → Work → ℕ

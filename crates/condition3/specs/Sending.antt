@@ -21,6 +21,6 @@ lines [] = []
 lines (t ∷ ts) = line t ++ lines ts
 
 -- so many ticks; shut, since a figure has more than a million of them
-unfoldable pub ticks : ℕ → List Call
-ticks zero = []
-ticks (suc n) = tickIn ∷ ticks n
+unfoldable pub ticksIn : ℕ → List Call
+ticksIn zero = []
+ticksIn (suc n) = tickIn ∷ ticksIn n

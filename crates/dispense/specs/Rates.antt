@@ -3,7 +3,7 @@ use Prim.Native.Nat.{ℕ, _+_, _-_}
 use mathlib.Core.Bool.{Bool, true, false}
 use lib.Dec.{leb}
 use Rattle.base.specs.If.{if_then_else_}
-use Rattle.drive.specs.Rates.{usable, mostRate}
+use Rattle.drive.specs.Rates.{isUsable, mostRate}
 use Rattle.drive.specs.declared.syringe.Syringe.{Syringe}
 use Rattle.dispense.specs.declared.rates.Rate.{Rate}
 use Rattle.dispense.specs.declared.rates.Rate.the-variants.{NoRate, Current}
@@ -26,7 +26,7 @@ decrease (Current unit r) x = Current unit (r - x)
 -- a visit under way has a usable rate
 abbrev pub isUsableRate : Syringe → Rate → Bool
 isUsableRate y NoRate = false
-isUsableRate y (Current unit r) = usable y r unit
+isUsableRate y (Current unit r) = isUsable y r unit
 
 -- a stopped pump has none
 abbrev pub isNoRate : Rate → Bool

@@ -12,8 +12,8 @@ use Rattle.pump.specs.Holder.{modelPhases}
 use Rattle.statement.specs.Facts.{runOf}
 use Rattle.statement.specs.Histories.{Call, after}
 use Rattle.statement.proofs.Always.{model, sound-after}
-use Rattle.condition3.specs.Observations.{Event, Every, trace, stepsOf, stepsGiven}
-use Rattle.condition3.specs.Sending.{lines, ticks}
+use Rattle.condition3.specs.Observations.{Event, Every, trace, stepsReported, stepsGiven}
+use Rattle.condition3.specs.Sending.{lines, ticksIn}
 use Rattle.condition3.proofs.Joining.{trace-both, ticks-both}
 use Rattle.condition3.proofs.Opening.{opened}
 use Rattle.condition3.proofs.Stops.{Standing, stopped-stands}
@@ -25,10 +25,10 @@ steps-both : (a b : List Event) → stepsGiven (a ++ b) ≡ stepsGiven a + steps
 unfolding stepsGiven
 steps-both [] b = sym (zero-add _)
 steps-both (e ∷ a) b =
-    ap (λ (n : ℕ). stepsOf e + n) (steps-both a b) ∙ sym (add-assoc (stepsOf e) (stepsGiven a) (stepsGiven b))
+    ap (λ (n : ℕ). stepsReported e + n) (steps-both a b) ∙ sym (add-assoc (stepsReported e) (stepsGiven a) (stepsGiven b))
 
 no-steps : (es : List Event) → Every Standing es → stepsGiven es ≡ 0
-unfolding stepsGiven stepsOf
+unfolding stepsGiven stepsReported
 no-steps [] h = refl
 no-steps (e ∷ es) h =
     ap₂ (λ (r : Report) (n : ℕ). r .infused + r .withdrawn + n) (h .0 .nothing) (no-steps es (h .1))
@@ -36,29 +36,29 @@ no-steps (e ∷ es) h =
 -- ---- n ticks of a run, after which the pump is stopped, and k more
 all-given :
     (ts : List String) (n steps : ℕ)
-    → runOf (after atPowerUp (lines ts ++ ticks n)) .mode ≡ Stopped NoAlarm
-    → stepsGiven (trace atPowerUp (lines ts ++ ticks n)) ≡ steps
+    → runOf (after atPowerUp (lines ts ++ ticksIn n)) .mode ≡ Stopped NoAlarm
+    → stepsGiven (trace atPowerUp (lines ts ++ ticksIn n)) ≡ steps
     → (k : ℕ)
-    → stepsGiven (trace atPowerUp (lines ts ++ ticks (n + k))) ≡ steps
+    → stepsGiven (trace atPowerUp (lines ts ++ ticksIn (n + k))) ≡ steps
 all-given ts n steps stops gives k =
     ap (λ (cs : List Call). stepsGiven (trace atPowerUp (lines ts ++ cs))) (ticks-both n k)
-    ∙ ap (λ (cs : List Call). stepsGiven (trace atPowerUp cs)) (sym (append-assoc (lines ts) (ticks n) (ticks k)))
-    ∙ ap stepsGiven (trace-both atPowerUp (lines ts ++ ticks n) (ticks k))
-    ∙ steps-both (trace atPowerUp (lines ts ++ ticks n)) (trace (after atPowerUp (lines ts ++ ticks n)) (ticks k))
+    ∙ ap (λ (cs : List Call). stepsGiven (trace atPowerUp cs)) (sym (append-assoc (lines ts) (ticksIn n) (ticksIn k)))
+    ∙ ap stepsGiven (trace-both atPowerUp (lines ts ++ ticksIn n) (ticksIn k))
+    ∙ steps-both (trace atPowerUp (lines ts ++ ticksIn n)) (trace (after atPowerUp (lines ts ++ ticksIn n)) (ticksIn k))
     ∙ ap₂ (λ (a b : ℕ). a + b) gives
-    (no-steps (trace (after atPowerUp (lines ts ++ ticks n)) (ticks k))
-    (stopped-stands (after atPowerUp (lines ts ++ ticks n)) (sound-after modelPhases model (lines ts ++ ticks n)) NoAlarm stops k))
+    (no-steps (trace (after atPowerUp (lines ts ++ ticksIn n)) (ticksIn k))
+    (stopped-stands (after atPowerUp (lines ts ++ ticksIn n)) (sound-after modelPhases model (lines ts ++ ticksIn n)) NoAlarm stops k))
     ∙ add-zero steps
 
 -- ---- the three runs
-pub none-fits : (k : ℕ) → stepsGiven (trace atPowerUp (lines tooLittle ++ ticks (2 + k))) ≡ 0
-unfolding opened ticks stepsGiven stepsOf tooLittle
+pub none-fits : (k : ℕ) → stepsGiven (trace atPowerUp (lines tooLittle ++ ticksIn (2 + k))) ≡ 0
+unfolding opened ticksIn stepsGiven stepsReported tooLittle
 none-fits = all-given tooLittle 2 0 refl refl
 
-pub one-fits : (k : ℕ) → stepsGiven (trace atPowerUp (lines justEnough ++ ticks (3 + k))) ≡ 1
-unfolding opened ticks stepsGiven stepsOf justEnough
+pub one-fits : (k : ℕ) → stepsGiven (trace atPowerUp (lines justEnough ++ ticksIn (3 + k))) ≡ 1
+unfolding opened ticksIn stepsGiven stepsReported justEnough
 one-fits = all-given justEnough 3 1 refl refl
 
-pub fifty-fit : (k : ℕ) → stepsGiven (trace atPowerUp (lines microlitre ++ ticks (20 + k))) ≡ 50
-unfolding opened ticks stepsGiven stepsOf microlitre
+pub fifty-fit : (k : ℕ) → stepsGiven (trace atPowerUp (lines microlitre ++ ticksIn (20 + k))) ≡ 50
+unfolding opened ticksIn stepsGiven stepsReported microlitre
 fifty-fit = all-given microlitre 20 50 refl refl

@@ -7,7 +7,7 @@ use Rattle.base.specs.Text.{text}
 use Rattle.condition3.specs.Observations.{Every}
 use Rattle.condition3.proofs.Opening.{opened}
 use Rattle.figures.specs.Figures.{figures}
-use Rattle.figures.specs.Rows.{Row, Holds, answered}
+use Rattle.figures.specs.Rows.{Row, Agrees, answerText}
 use Rattle.figures.proofs.Doses.{none-fits, one-fits, fifty-fit}
 use Rattle.figures.proofs.Entries.{pause-entered}
 
@@ -19,8 +19,8 @@ a then b = (a, b)
 abbrev alone : ℕ → List ℕ
 alone n = n ∷ []
 
-pub figures-hold : Every Holds figures
-unfolding figures opened answered
+pub figures-hold : Every Agrees figures
+unfolding figures opened answerText
 figures-hold =
     -- a, b, c
     (λ k. refl)

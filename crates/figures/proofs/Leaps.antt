@@ -20,17 +20,17 @@ use Rattle.program.specs.declared.state.Pending.{Pending}
 use Rattle.program.specs.declared.state.Run.{Run}
 use Rattle.program.specs.declared.state.Work.{Work}
 use Rattle.program.specs.declared.state.Work.the-variants.{Entering, Visiting, Pausing, Waiting}
-use Rattle.tick.specs.Ticks.{tickOf}
+use Rattle.tick.specs.Ticks.{tick}
 use Rattle.pump.specs.Holder.{phaseAt, isSoundPump}
 use Rattle.pump.specs.declared.holder.Pump.{Pump}
 use Rattle.pump.specs.declared.reports.Report.{Report}
 use Rattle.pump.proofs.Kept.{sound-tick}
 use Rattle.statement.specs.Facts.{coreOf, runOf, underWay}
 use Rattle.statement.specs.Histories.{Call, after, Whole}
-use Rattle.statement.specs.Outcomes.{withCore}
+use Rattle.statement.specs.Outcomes.{pumpWithCore}
 use Rattle.statement.proofs.Always.{after-whole}
 use Rattle.condition3.specs.Observations.{Event, Every, isAccepted, trace, tickTaken}
-use Rattle.condition3.specs.Sending.{ticks}
+use Rattle.condition3.specs.Sending.{ticksIn}
 use Rattle.condition3.proofs.Joining.{after-both, trace-both, ticks-both}
 use Rattle.condition3.proofs.Pauses.{InPause, Passing, behindPause, pause-ends, pause-passes}
 use Rattle.condition3.proofs.Stops.{Standing, stopped-after, stopped-stands}
@@ -38,7 +38,7 @@ use Rattle.figures.specs.Rows.{entering, enters, oneIf, entries}
 
 -- ---- one leap of a core, with the phases at hand, and the ticks that it stands for
 abbrev pub stepped : List Phase → Core → Core
-stepped ps s = tickOf s (phaseAt ps (s .run .place .current)) .core
+stepped ps s = tick s (phaseAt ps (s .run .place .current)) .core
 
 unfoldable pub leapWork : List Phase → Core → Work → Core
 leapWork ps s Entering = stepped ps s
@@ -104,12 +104,12 @@ none-entered phase P none (e ∷ es) h =
 
 -- ---- what a leap says of the ticks that it stands for
 record Leaps (phase : ℕ) (p : Pump) (n : ℕ) (q : Pump) : Type 0 where
-  there : after p (ticks n) ≡ q
-  counted : entries phase (trace p (ticks n)) ≡ oneIf (entering phase (runOf p))
+  there : after p (ticksIn n) ≡ q
+  counted : entries phase (trace p (ticksIn n)) ≡ oneIf (entering phase (runOf p))
 
 module _ (phase : ℕ) (p : Pump) (w : Whole p) where
-  one-tick : Leaps phase p 1 (withCore p (stepped (p .phases) (coreOf p)))
-  unfolding after trace ticks entries enters
+  one-tick : Leaps phase p 1 (pumpWithCore p (stepped (p .phases) (coreOf p)))
+  unfolding after trace ticksIn entries enters
   one-tick =
       record {
         there = ap (λ (r : Report). r .pump) (sound-tick p (w .sound));
@@ -123,7 +123,7 @@ module _ (phase : ℕ) (p : Pump) (w : Whole p) where
       record {
         there = pause-ends p left h;
         counted =
-            none-entered phase Passing (passing-none phase) (trace p (ticks left)) (pause-passes p left left h (le-refl left))
+            none-entered phase Passing (passing-none phase) (trace p (ticksIn left)) (pause-passes p left left h (le-refl left))
             ∙ sym (ap oneIf (pausing-none phase (runOf p) left e));
       }
 
@@ -131,7 +131,7 @@ module _ (phase : ℕ) (p : Pump) (w : Whole p) where
       (x : Work)
       → runOf p .mode ≡ Running
       → underWay p ≡ x
-      → Leaps phase p (spanWork x) (withCore p (leapWork (p .phases) (coreOf p) x))
+      → Leaps phase p (spanWork x) (pumpWithCore p (leapWork (p .phases) (coreOf p) x))
   unfolding spanWork leapWork
   leap-work Entering m e = one-tick
   leap-work (Visiting v) m e = one-tick
@@ -139,13 +139,13 @@ module _ (phase : ℕ) (p : Pump) (w : Whole p) where
   leap-work Waiting m e = one-tick
 
   leap-mode :
-      (x : Mode) → runOf p .mode ≡ x → Leaps phase p (spanMode x (underWay p)) (withCore p (leapMode (p .phases) (coreOf p) x))
+      (x : Mode) → runOf p .mode ≡ x → Leaps phase p (spanMode x (underWay p)) (pumpWithCore p (leapMode (p .phases) (coreOf p) x))
   unfolding spanMode leapMode
   leap-mode (Stopped alarm) e = one-tick
   leap-mode Paused e = one-tick
   leap-mode Running e = leap-work (underWay p) e refl
 
-  leap-true : Leaps phase p (span (runOf p)) (withCore p (leap (p .phases) (coreOf p)))
+  leap-true : Leaps phase p (span (runOf p)) (pumpWithCore p (leap (p .phases) (coreOf p)))
   unfolding span leap
   leap-true = leap-mode (runOf p .mode) refl
 
@@ -174,42 +174,42 @@ tallying = 0
 
 -- what a tally says of the ticks that it has used
 pub record True (phase : ℕ) (p : Pump) (t : Tally) : Type 0 where
-  pub there : after p (ticks (t .used)) ≡ withCore p (t .place)
-  pub counted : entries phase (trace p (ticks (t .used))) ≡ t .seen
+  pub there : after p (ticksIn (t .used)) ≡ pumpWithCore p (t .place)
+  pub counted : entries phase (trace p (ticksIn (t .used))) ≡ t .seen
 
 -- the same place, when k more ticks have gone by
 abbrev pub waited : Tally → ℕ → Tally
 waited t k = record { place = t .place; used = t .used + k; seen = t .seen }
 
 -- ticks in two parts
-after-ticks : (p : Pump) (m n : ℕ) → after p (ticks (m + n)) ≡ after (after p (ticks m)) (ticks n)
-after-ticks p m n = ap (after p) (ticks-both m n) ∙ after-both p (ticks m) (ticks n)
+after-ticks : (p : Pump) (m n : ℕ) → after p (ticksIn (m + n)) ≡ after (after p (ticksIn m)) (ticksIn n)
+after-ticks p m n = ap (after p) (ticks-both m n) ∙ after-both p (ticksIn m) (ticksIn n)
 
 entries-ticks :
     (phase : ℕ) (p : Pump) (m n : ℕ)
-    → entries phase (trace p (ticks (m + n))) ≡ entries phase (trace p (ticks m)) + entries phase (trace (after p (ticks m)) (ticks n))
+    → entries phase (trace p (ticksIn (m + n))) ≡ entries phase (trace p (ticksIn m)) + entries phase (trace (after p (ticksIn m)) (ticksIn n))
 entries-ticks phase p m n =
     ap (λ (cs : List Call). entries phase (trace p cs)) (ticks-both m n)
-    ∙ ap (entries phase) (trace-both p (ticks m) (ticks n))
-    ∙ entries-both phase (trace p (ticks m)) (trace (after p (ticks m)) (ticks n))
+    ∙ ap (entries phase) (trace-both p (ticksIn m) (ticksIn n))
+    ∙ entries-both phase (trace p (ticksIn m)) (trace (after p (ticksIn m)) (ticksIn n))
 
 module _ (phase : ℕ) (p : Pump) (w : Whole p) where
-  whole-there : (t : Tally) → True phase p t → Whole (withCore p (t .place))
-  whole-there t h = subst Whole (h .there) (after-whole p (ticks (t .used)) w)
+  whole-there : (t : Tally) → True phase p t → Whole (pumpWithCore p (t .place))
+  whole-there t h = subst Whole (h .there) (after-whole p (ticksIn (t .used)) w)
 
   next-true : (t : Tally) → True phase p t → True phase p (next phase (p .phases) t)
   unfolding next
   next-true t h =
-      let l = leap-true phase (withCore p (t .place)) (whole-there t h) in
+      let l = leap-true phase (pumpWithCore p (t .place)) (whole-there t h) in
       record {
         there =
             after-ticks p (t .used) (span (t .place .run))
-            ∙ ap (λ (q : Pump). after q (ticks (span (t .place .run)))) (h .there)
+            ∙ ap (λ (q : Pump). after q (ticksIn (span (t .place .run)))) (h .there)
             ∙ l .there;
         counted =
             entries-ticks phase p (t .used) (span (t .place .run))
             ∙ ap₂ (λ (a b : ℕ). a + b) (h .counted)
-            (ap (λ (q : Pump). entries phase (trace q (ticks (span (t .place .run))))) (h .there) ∙ l .counted);
+            (ap (λ (q : Pump). entries phase (trace q (ticksIn (span (t .place .run))))) (h .there) ∙ l .counted);
       }
 
   onwards-true : (n : ℕ) (t : Tally) → True phase p t → True phase p (onwards phase (p .phases) n t)
@@ -218,7 +218,7 @@ module _ (phase : ℕ) (p : Pump) (w : Whole p) where
   onwards-true (suc n) t h = onwards-true n (next phase (p .phases) t) (next-true t h)
 
   pub tallied : (n : ℕ) → True phase p (tally phase p n)
-  unfolding tally after trace ticks entries
+  unfolding tally after trace ticksIn entries
   tallied n = onwards-true n (record { place = coreOf p; used = 0; seen = 0 }) (record { there = refl; counted = refl })
 
   -- a tally that ends in a stopped pump has seen all that there ever is
@@ -230,14 +230,14 @@ module _ (phase : ℕ) (p : Pump) (w : Whole p) where
       → (k : ℕ)
       → True phase p (waited t k)
   for-ever t h alarm e k =
-      let q : Pump = withCore p (t .place) in
+      let q : Pump = pumpWithCore p (t .place) in
       let sound : isSoundPump q ≡ true = whole-there t h .sound in
       record {
-        there = after-ticks p (t .used) k ∙ ap (λ (x : Pump). after x (ticks k)) (h .there) ∙ stopped-after q sound alarm e k;
+        there = after-ticks p (t .used) k ∙ ap (λ (x : Pump). after x (ticksIn k)) (h .there) ∙ stopped-after q sound alarm e k;
         counted =
             entries-ticks phase p (t .used) k
             ∙ ap₂ (λ (a b : ℕ). a + b) (h .counted)
-            (ap (λ (x : Pump). entries phase (trace x (ticks k))) (h .there)
-            ∙ none-entered phase Standing (standing-none phase) (trace q (ticks k)) (stopped-stands q sound alarm e k))
+            (ap (λ (x : Pump). entries phase (trace x (ticksIn k))) (h .there)
+            ∙ none-entered phase Standing (standing-none phase) (trace q (ticksIn k)) (stopped-stands q sound alarm e k))
             ∙ add-zero (t .seen);
       }

@@ -3,7 +3,7 @@
 use mathlib.Core.List.{List, [], _∷_}
 use Prim.Native.String.{String}
 use Rattle.drive.specs.Syringe.{stepVolume}
-use Rattle.figures.specs.Rows.{Row, number, prints, talks, doses, visitsPhase}
+use Rattle.figures.specs.Rows.{Row, comesTo, prints, talks, dispenses, visitsPhase}
 
 -- ---- the programs of h, i and l. D is 10,000 at power-up; 200.0 MH is a usable rate
 abbrev pub dosing : String → List String
@@ -38,9 +38,9 @@ nested =
 unfoldable pub figures : List Row
 figures =
     -- a. D 100: v 1,963. b. D 10,000: 19,635,000. c. D 50,000: 490,875,000
-    number "a" 1_963 (stepVolume (record { diameter = 100 }))
-    ∷ number "b" 19_635_000 (stepVolume (record { diameter = 10_000 }))
-    ∷ number "c" 490_875_000 (stepVolume (record { diameter = 50_000 }))
+    comesTo "a" 1_963 (stepVolume (record { diameter = 100 }))
+    ∷ comesTo "b" 19_635_000 (stepVolume (record { diameter = 10_000 }))
+    ∷ comesTo "c" 490_875_000 (stepVolume (record { diameter = 50_000 }))
     -- d. `DIA0.099` is `?OOR`; `0.1` accepted
     ∷ talks "d" (("", "00A?R") ∷ ("DIA0.099", "00S?OOR") ∷ [])
     ∷ talks "d" (("", "00A?R") ∷ ("DIA0.1", "00S") ∷ [])
@@ -53,10 +53,10 @@ figures =
     ∷ talks "g" (("", "00A?R") ∷ ("RAT282.7MH", "00S") ∷ [])
     ∷ talks "g" (("", "00A?R") ∷ ("RAT282.8MH", "00S?OOR") ∷ [])
     -- h. D 10,000, VOL 0.019: 0 steps; 0.020: 1. The pump has stopped after 2 ticks and after 3
-    ∷ doses "h" tooLittle 2 0
-    ∷ doses "h" justEnough 3 1
+    ∷ dispenses "h" tooLittle 2 0
+    ∷ dispenses "h" justEnough 3 1
     -- i. VOL 1.000: 50. It has stopped after 20 ticks
-    ∷ doses "i" microlitre 20 50
+    ∷ dispenses "i" microlitre 20 50
     -- j. 9,999 thousandths print `9.999`, 10,000 `10.00`. k. 99,999 print `99.99`
     ∷ prints "j" 9_999 "9.999"
     ∷ prints "j" 10_000 "10.00"

@@ -9,13 +9,13 @@ use lib.Dec.{eqb}
 use lib.ListN.{take}
 use Rattle.base.specs.If.{if_then_else_}
 use Rattle.base.specs.Text.{letter, text}
-use Rattle.decimal.specs.Print.{printed}
+use Rattle.decimal.specs.Print.{print}
 use Rattle.program.specs.Runs.{isOperating, isEntering}
 use Rattle.program.specs.declared.state.Run.{Run}
 use Rattle.pump.specs.Holder.{modelPhases, freshPump}
 use Rattle.pump.specs.declared.holder.Pump.{Pump}
 use Rattle.condition3.specs.Observations.{Event, trace, tickTaken, stepsGiven}
-use Rattle.condition3.specs.Sending.{lines, ticks}
+use Rattle.condition3.specs.Sending.{lines, ticksIn}
 
 -- the pump just switched on, from which every row goes   (01, Commands: Power-up)
 abbrev pub atPowerUp : Pump
@@ -29,39 +29,39 @@ pub record Row : Type 0 where
   pub given : ℕ → List ℕ
 
 -- the claim of a row: they are the same, however many more ticks go by
-abbrev pub Holds : Row → Type 0
-Holds r = (k : ℕ) → r .given k ≡ r .paper
+abbrev pub Agrees : Row → Type 0
+Agrees r = (k : ℕ) → r .given k ≡ r .paper
 
 -- ---- a, b, c: a number that a definition gives
-abbrev pub number : Char → ℕ → ℕ → Row
-number c n m = record { mark = letter c; paper = n ∷ []; given = λ k. m ∷ [] }
+abbrev pub comesTo : Char → ℕ → ℕ → Row
+comesTo c n m = record { mark = letter c; paper = n ∷ []; given = λ k. m ∷ [] }
 
 -- ---- j, k: so many thousandths as they are printed
 abbrev pub prints : Char → ℕ → String → Row
-prints c n t = record { mark = letter c; paper = text t; given = λ k. printed n }
+prints c n t = record { mark = letter c; paper = text t; given = λ k. print n }
 
 -- ---- d, e, f, g: lines sent, and every byte that is answered to them
 -- what the calls answer: of each one's buffer as many bytes as its report says   (01, Calls: "one whole answer, and reports its length")
-unfoldable pub answered : List Event → List ℕ
-answered [] = []
-answered (e ∷ es) = take (e .report .length) (e .behind) ++ answered es
+unfoldable pub answerText : List Event → List ℕ
+answerText [] = []
+answerText (e ∷ es) = take (e .report .length) (e .behind) ++ answerText es
 
 -- the lines of a talk, and the answers to them, each between STX and ETX   (01, Line and answer)
 abbrev pub asked : List (String × String) → List String
 asked [] = []
 asked (said ∷ talk) = said .0 ∷ asked talk
 
-abbrev pub framed : List (String × String) → List ℕ
-framed [] = []
-framed (said ∷ talk) = 2 ∷ text (said .1) ++ 3 ∷ framed talk
+abbrev pub framedTalk : List (String × String) → List ℕ
+framedTalk [] = []
+framedTalk (said ∷ talk) = 2 ∷ text (said .1) ++ 3 ∷ framedTalk talk
 
 abbrev pub talks : Char → List (String × String) → Row
-talks c talk = record { mark = letter c; paper = framed talk; given = λ k. answered (trace atPowerUp (lines (asked talk))) }
+talks c talk = record { mark = letter c; paper = framedTalk talk; given = λ k. answerText (trace atPowerUp (lines (asked talk))) }
 
 -- ---- h, i: the steps of all reports, when lines are sent and n ticks go by, and any k more
-abbrev pub doses : Char → List String → ℕ → ℕ → Row
-doses c ts n steps =
-    record { mark = letter c; paper = steps ∷ []; given = λ k. stepsGiven (trace atPowerUp (lines ts ++ ticks (n + k))) ∷ [] }
+abbrev pub dispenses : Char → List String → ℕ → ℕ → Row
+dispenses c ts n steps =
+    record { mark = letter c; paper = steps ∷ []; given = λ k. stepsGiven (trace atPowerUp (lines ts ++ ticksIn (n + k))) ∷ [] }
 
 -- ---- l: how often a phase is entered, when lines are sent and n ticks go by, and any k more
 -- a tick would enter that phase: the pump runs, the phase is the current one, and it is not entered   (01, Ticks and phases: "A tick does
@@ -82,4 +82,4 @@ entries phase (e ∷ es) = oneIf (enters phase e) + entries phase es
 
 abbrev pub visitsPhase : Char → ℕ → List String → ℕ → ℕ → Row
 visitsPhase c phase ts n times =
-    record { mark = letter c; paper = times ∷ []; given = λ k. entries phase (trace atPowerUp (lines ts ++ ticks (n + k))) ∷ [] }
+    record { mark = letter c; paper = times ∷ []; given = λ k. entries phase (trace atPowerUp (lines ts ++ ticksIn (n + k))) ∷ [] }

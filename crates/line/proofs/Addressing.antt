@@ -8,7 +8,7 @@ use native.Mathlib.Omega.{arith}
 use lib.ListN.{length, getD, take}
 use Rattle.base.specs.If.{if_then_else_}
 use Rattle.decimal.specs.Read.{isDigit, numberFrom}
-use Rattle.decimal.specs.Short.{oneOf, twoOf, joinedOf}
+use Rattle.decimal.specs.Short.{readOne, readTwo, joined}
 use Rattle.decimal.specs.declared.short.Short.{Short}
 use Rattle.decimal.specs.declared.short.Short.the-variants.{Digits, NoDigits}
 use Rattle.line.specs.Addresses.{addressWidth, addressOf}
@@ -63,15 +63,15 @@ abbrev valueOf : Short → ℕ
 valueOf (Digits n) = n
 valueOf NoDigits = 0
 
-read-as-number : (s : List ℕ) → valueOf (twoOf (take (addressWidth s) s)) ≡ addressOf s
-unfolding addressOf addressWidth twoOf oneOf joinedOf numberFrom
+read-as-number : (s : List ℕ) → valueOf (readTwo (take (addressWidth s) s)) ≡ addressOf s
+unfolding addressOf addressWidth readTwo readOne joined numberFrom
 read-as-number [] = refl
 read-as-number (a ∷ []) = go (isDigit a) refl
   where
     go :
         (t : Bool)
         → isDigit a ≡ t
-        → valueOf (twoOf (take (if t then 1 else 0) (a ∷ []))) ≡ numberFrom 0 (take (if t then 1 else 0) (a ∷ []))
+        → valueOf (readTwo (take (if t then 1 else 0) (a ∷ []))) ≡ numberFrom 0 (take (if t then 1 else 0) (a ∷ []))
     go true e = simp e (omega arith)
     go false e = refl
 read-as-number (a ∷ b ∷ s) = go (isDigit a) (isDigit b) refl refl
@@ -80,15 +80,15 @@ read-as-number (a ∷ b ∷ s) = go (isDigit a) (isDigit b) refl refl
         (t u : Bool)
         → isDigit a ≡ t
         → isDigit b ≡ u
-        → valueOf (twoOf (take (if t then if u then 2 else 1 else 0) (a ∷ b ∷ s)))
+        → valueOf (readTwo (take (if t then if u then 2 else 1 else 0) (a ∷ b ∷ s)))
         ≡ numberFrom 0 (take (if t then if u then 2 else 1 else 0) (a ∷ b ∷ s))
     go true true e f = simp (e, f) (omega arith)
     go true false e f = simp e (omega arith)
     go false u e f = refl
 
-module _ (s : List ℕ) (w : ℕ) (r : Short) (p : w ≡ addressWidth s) (q : r ≡ twoOf (take w s)) where
+module _ (s : List ℕ) (w : ℕ) (r : Short) (p : w ≡ addressWidth s) (q : r ≡ readTwo (take w s)) where
   value-is : valueOf r ≡ addressOf s
-  value-is = ap valueOf (q ∙ ap (λ (n : ℕ). twoOf (take n s)) p) ∙ read-as-number s
+  value-is = ap valueOf (q ∙ ap (λ (n : ℕ). readTwo (take n s)) p) ∙ read-as-number s
 
   pub address-read : (n : ℕ) → r ≡ Digits n → n ≡ addressOf s
   address-read n e = ap valueOf (sym e) ∙ value-is

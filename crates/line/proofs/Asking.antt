@@ -15,7 +15,7 @@ use Rattle.decimal.specs.declared.input.Reading.{Reading}
 use Rattle.decimal.specs.declared.input.Reading.the-variants.{Number, NoNumber}
 use Rattle.decimal.specs.declared.short.Short.{Short}
 use Rattle.decimal.specs.declared.short.Short.the-variants.{Digits, NoDigits}
-use Rattle.decimal.specs.Read.{readOf}
+use Rattle.decimal.specs.Read.{read}
 use Rattle.drive.specs.declared.rates.RateUnit.{RateUnit}
 use Rattle.drive.specs.declared.rates.RateUnit.the-variants.{Um, Mm, Uh, Mh}
 use Rattle.drive.specs.declared.directions.Direction.{Direction}
@@ -126,16 +126,16 @@ module _ (s : List ℕ) where
 
 -- ---- RAT
 module _ (s amount : List ℕ) (units : Units) (r : Reading)
-    (n : length s ≡ 0 → ⊥) (p : units ≡ unitsAtEnd s) (q : amount ≡ amountOf s) (e : r ≡ readOf amount) where
+    (n : length s ≡ 0 → ⊥) (p : units ≡ unitsAtEnd s) (q : amount ≡ amountOf s) (e : r ≡ read amount) where
   pub sets-rate : (x : ℕ) → r ≡ Number x → c.SetRate x units ≡ rateAsked s
   unfolding rateAsked
   sets-rate x k =
       ap (c.SetRate x) p
-      ∙ sets-number c.AskRate (λ x. c.SetRate x (unitsAtEnd s)) s n (readOf (amountOf s)) r x (e ∙ ap readOf q) k
+      ∙ sets-number c.AskRate (λ x. c.SetRate x (unitsAtEnd s)) s n (read (amountOf s)) r x (e ∙ ap read q) k
 
   pub no-rate : r ≡ NoNumber → c.Malformed ≡ rateAsked s
   unfolding rateAsked
-  no-rate k = no-number c.AskRate (λ x. c.SetRate x (unitsAtEnd s)) s n (readOf (amountOf s)) r (e ∙ ap readOf q) k
+  no-rate k = no-number c.AskRate (λ x. c.SetRate x (unitsAtEnd s)) s n (read (amountOf s)) r (e ∙ ap read q) k
 
 -- ---- INF, WDR and REV by their first letter
 pub only-infuse : (t : List ℕ) → headingOf (letter "I" ∷ t) ≡ headedBy (heading.To Infuse) (text "INF") (letter "I" ∷ t)

@@ -8,7 +8,7 @@ use lib.Dec.{eqb}
 use lib.ListN.{length, take, drop}
 use borrow.Author.Tests.{eq-eqb, ne-eqb}
 use Rattle.base.specs.If.{if_then_else_}
-use Rattle.decimal.specs.Short.{oneOf, twoOf, tenthsOf}
+use Rattle.decimal.specs.Short.{readOne, readTwo, readTenths}
 use Rattle.decimal.specs.declared.short.Short.{Short}
 use Rattle.decimal.specs.declared.short.Short.the-variants.{Digits, NoDigits}
 use Rattle.words.specs.Functions.{number, takesPhase, isOut}
@@ -16,12 +16,11 @@ use Rattle.words.specs.Spelling.{functionName}
 use Rattle.words.specs.declared.functions.Function.{Function}
 use Rattle.words.specs.declared.functions.Function.the-variants as f
 use Rattle.line.specs.Names.{nameOf, argumentOf}
-use Rattle.line.specs.Functions.{calledOf, holding, ifHeld, pauseBy, pauseAsked, withDatum, functionBy, functionAsked}
+use Rattle.line.specs.Functions.{calledIn, holding, ifHeld, pauseBy, pauseAsked, withDatum, functionBy, functionAsked}
 use Rattle.line.specs.Commands.{askedBy, commandOf}
 use Rattle.line.specs.Arguments.{unlessMore}
 use Rattle.line.proofs.Leading.{part-behind}
 use Rattle.line.specs.declared.names.Name.{Name}
-use Rattle.line.specs.declared.names.Name.the-variants as n
 use Rattle.line.specs.declared.functions.Called.{Called}
 use Rattle.line.specs.declared.functions.Called.the-variants.{By, NoFunction}
 use Rattle.words.specs.declared.commands.Command.{Command}
@@ -32,11 +31,11 @@ datum-is :
     (g : Function) (s : List ℕ)
     → withDatum g s
     ≡ (if takesPhase g || eqb (number g) 5
-    then ifHeld g (twoOf s)
+    then ifHeld g (readTwo s)
     else if eqb (number g) 8 || eqb (number g) 9
     then pauseAsked s
     else if isOut g
-    then ifHeld g (oneOf s)
+    then ifHeld g (readOne s)
     else unlessMore s (c.SetFunction g))
 datum-is f.Rat s = refl
 datum-is f.Inc s = refl
@@ -55,7 +54,7 @@ datum-is f.Bep s = refl
 datum-is (f.Out k) s = refl
 
 module _ (g : Function) (s : List ℕ) (n : ℕ) (a : n ≡ number g) (t : Bool) (b : t ≡ takesPhase g) (r : Command) where
-  pub by-digits : (u : Short) → (t || eqb n 5) ≡ true → u ≡ twoOf s → r ≡ ifHeld g u → r ≡ withDatum g s
+  pub by-digits : (u : Short) → (t || eqb n 5) ≡ true → u ≡ readTwo s → r ≡ ifHeld g u → r ≡ withDatum g s
   by-digits u e p q = q ∙ ap (ifHeld g) p ∙ sym (datum-is g s ∙ simp (rw (a, b) at e))
 
   module _ (e : (t || eqb n 5) ≡ false) where
@@ -63,7 +62,7 @@ module _ (g : Function) (s : List ℕ) (n : ℕ) (a : n ≡ number g) (t : Bool)
     by-time h q = q ∙ sym (datum-is g s ∙ simp (rw (a, b) at e, rw (a) at h))
 
     module _ (o : (eqb n 8 || eqb n 9) ≡ false) (l : Bool) (m : l ≡ isOut g) where
-      pub by-level : (u : Short) → l ≡ true → u ≡ oneOf s → r ≡ ifHeld g u → r ≡ withDatum g s
+      pub by-level : (u : Short) → l ≡ true → u ≡ readOne s → r ≡ ifHeld g u → r ≡ withDatum g s
       by-level u h p q = q ∙ ap (ifHeld g) p ∙ sym (datum-is g s ∙ simp (rw (a, b) at e, rw (a) at o, sym m ∙ h))
 
       pub by-nothing : l ≡ false → r ≡ unlessMore s (c.SetFunction g) → r ≡ withDatum g s
@@ -74,14 +73,14 @@ pub ruleset data-taken = (by-digits, by-time, by-level, by-nothing)
 pub held : (g h : Function) (u : Short) (n : ℕ) → u ≡ Digits n → h ≡ holding g n → c.SetFunction h ≡ ifHeld g u
 held g h u n e p = ap c.SetFunction p ∙ ap (ifHeld g) (sym e)
 
-module _ (s : List ℕ) (u : Short) (p : u ≡ twoOf s) where
+module _ (s : List ℕ) (u : Short) (p : u ≡ readTwo s) where
   pub whole-seconds : (n : ℕ) → u ≡ Digits n → c.SetFunction (f.Pas n) ≡ pauseAsked s
   unfolding pauseAsked
-  whole-seconds n e = ap (λ (v : Short). pauseBy v (tenthsOf s)) (sym e ∙ p)
+  whole-seconds n e = ap (λ (v : Short). pauseBy v (readTenths s)) (sym e ∙ p)
 
-  pub or-tenths : (t : Short) (r : Command) → u ≡ NoDigits → t ≡ tenthsOf s → r ≡ ifHeld (f.Tenths 0) t → r ≡ pauseAsked s
+  pub or-tenths : (t : Short) (r : Command) → u ≡ NoDigits → t ≡ readTenths s → r ≡ ifHeld (f.Tenths 0) t → r ≡ pauseAsked s
   unfolding pauseAsked
-  or-tenths t r e k q = q ∙ ap (ifHeld (f.Tenths 0)) k ∙ ap (λ (v : Short). pauseBy v (tenthsOf s)) (sym e ∙ p)
+  or-tenths t r e k q = q ∙ ap (ifHeld (f.Tenths 0)) k ∙ ap (λ (v : Short). pauseBy v (readTenths s)) (sym e ∙ p)
 
 pub ruleset pauses = (whole-seconds, or-tenths)
 
@@ -91,7 +90,7 @@ module _ (s : List ℕ) where
   unfolding functionAsked
   asks-function e = sym (simp (eq-eqb (length s) 0 e))
 
-  module _ (n : length s ≡ 0 → ⊥) (u : Called) (p : u ≡ calledOf s) where
+  module _ (n : length s ≡ 0 → ⊥) (u : Called) (p : u ≡ calledIn s) where
     pub by-called : functionAsked s ≡ functionBy u s
     unfolding functionAsked
     by-called = simp (ne-eqb (length s) 0 n) (ap (λ (v : Called). functionBy v s) (sym p))

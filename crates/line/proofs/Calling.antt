@@ -14,73 +14,73 @@ use Rattle.words.specs.Spelling.{functionName}
 use Rattle.words.specs.declared.functions.Function.{Function}
 use Rattle.words.specs.declared.functions.Function.the-variants as f
 use Rattle.line.specs.Spelling.{leads}
-use Rattle.line.specs.Functions.{functions, calledOf, calledBy, calledAmong}
+use Rattle.line.specs.Functions.{functions, calledIn, calledBy, calledAmong}
 use Rattle.line.specs.declared.functions.Called.{Called}
 use Rattle.line.specs.declared.functions.Called.the-variants.{By, NoFunction}
 use Rattle.line.proofs.Leading.{leads-is, leads-within, front-long, front-within, front-leads}
 
 -- ---- the letters that the code looks at leave one function to be tried
 abbrev Only : Function → List ℕ → Type 0
-Only g s = calledOf s ≡ calledBy g (functionName g) s
+Only g s = calledIn s ≡ calledBy g (functionName g) s
 
 pub only-inc : (t : List ℕ) → Only f.Inc (letter "I" ∷ letter "N" ∷ t)
-unfolding calledOf leads
+unfolding calledIn leads
 only-inc t = refl
 
 pub only-dec : (t : List ℕ) → Only f.Dec (letter "D" ∷ t)
-unfolding calledOf leads
+unfolding calledIn leads
 only-dec t = refl
 
 pub only-stp : (t : List ℕ) → Only f.Stp (letter "S" ∷ t)
-unfolding calledOf leads
+unfolding calledIn leads
 only-stp t = refl
 
 pub only-jmp : (t : List ℕ) → Only (f.Jmp 0) (letter "J" ∷ t)
-unfolding calledOf leads
+unfolding calledIn leads
 only-jmp t = refl
 
 pub only-lop : (b : ℕ) (t : List ℕ) → Only (f.Lop 0) (letter "L" ∷ b ∷ letter "P" ∷ t)
-unfolding calledOf leads
+unfolding calledIn leads
 only-lop b t = simp and-false
 
 pub only-lps : (b : ℕ) (t : List ℕ) → Only f.Lps (letter "L" ∷ b ∷ letter "S" ∷ t)
-unfolding calledOf leads
+unfolding calledIn leads
 only-lps b t = simp and-false
 
 pub only-pas : (t : List ℕ) → Only (f.Pas 0) (letter "P" ∷ t)
-unfolding calledOf leads
+unfolding calledIn leads
 only-pas t = refl
 
 pub only-evn : (b : ℕ) (t : List ℕ) → Only (f.Evn 0) (letter "E" ∷ b ∷ letter "N" ∷ t)
-unfolding calledOf leads
+unfolding calledIn leads
 only-evn b t = simp and-false
 
 pub only-bep : (t : List ℕ) → Only f.Bep (letter "B" ∷ t)
-unfolding calledOf leads
+unfolding calledIn leads
 only-bep t = refl
 
 pub only-out : (t : List ℕ) → Only (f.Out 0) (letter "O" ∷ t)
-unfolding calledOf leads
+unfolding calledIn leads
 only-out t = refl
 
 -- ---- and so do letters that are not those of the others
 loop-left :
     (s : List ℕ) → getD s 0 0 ≡ letter "L" → (getD s 2 0 ≡ letter "P" → ⊥) → (getD s 2 0 ≡ letter "S" → ⊥) → Only f.Lpe s
-unfolding calledOf leads
+unfolding calledIn leads
 loop-left [] e p q = refl
 loop-left (a ∷ []) e p q = simp and-false
 loop-left (a ∷ b ∷ []) e p q = simp (e, and-false)
 loop-left (a ∷ b ∷ c ∷ s) e p q = simp (e, ne-eqb c (letter "P") p, ne-eqb c (letter "S") q, and-false)
 
 event-left : (s : List ℕ) → getD s 0 0 ≡ letter "E" → (getD s 2 0 ≡ letter "N" → ⊥) → Only f.Evr s
-unfolding calledOf leads
+unfolding calledIn leads
 event-left [] e p = refl
 event-left (a ∷ []) e p = simp and-false
 event-left (a ∷ b ∷ []) e p = simp (e, and-false)
 event-left (a ∷ b ∷ c ∷ s) e p = simp (e, ne-eqb c (letter "N") p, and-false)
 
 if-left : (s : List ℕ) → getD s 0 0 ≡ letter "I" → (getD s 1 0 ≡ letter "N" → ⊥) → Only (f.If 0) s
-unfolding calledOf leads
+unfolding calledIn leads
 if-left [] e p = refl
 if-left (a ∷ []) e p = simp and-false
 if-left (a ∷ b ∷ s) e p = simp (e, ne-eqb b (letter "N") p)
@@ -98,7 +98,7 @@ pub record NoFirst (a : ℕ) : Type 0 where
   pub o : a ≡ letter "O" → ⊥
 
 rate-left : (s : List ℕ) → NoFirst (getD s 0 0) → Only f.Rat s
-unfolding calledOf leads
+unfolding calledIn leads
 rate-left [] n = refl
 rate-left (a ∷ s) n =
     simp (
@@ -135,10 +135,10 @@ module _ (g : Function) (places : List ℕ) (n : ℕ) (p : take (length (functio
   name-within = front-within (functionName g) places n p q
 
   module _ (s : List ℕ) (o : Only g s) (t : Bool) (e : t ≡ leads (take n places) s) where
-    pub called : t ≡ true → By g ≡ calledOf s
+    pub called : t ≡ true → By g ≡ calledIn s
     called h = sym (o ∙ simp (front-leads (functionName g) places n p q s t e ∙ h))
 
-    pub not-called : t ≡ false → NoFunction ≡ calledOf s
+    pub not-called : t ≡ false → NoFunction ≡ calledIn s
     not-called h = sym (o ∙ simp (front-leads (functionName g) places n p q s t e ∙ h))
 
 -- ---- a function that is called is named at the front of the text
@@ -155,8 +155,8 @@ among-leads (h ∷ gs) s g e = go (leads (functionName h) s) refl e (among-leads
     go true p q k = let z : h ≡ g = cc in ap (λ (x : Function). leads (functionName x) s) (sym z) ∙ p
     go false p q k = k q
 
-pub called-within : (s : List ℕ) (r : Called) (g : Function) → r ≡ calledOf s → r ≡ By g → length (functionName g) ≤ length s
-unfolding calledOf
+pub called-within : (s : List ℕ) (r : Called) (g : Function) → r ≡ calledIn s → r ≡ By g → length (functionName g) ≤ length s
+unfolding calledIn
 called-within s r g p q = leads-within (functionName g) s (among-leads functions s g (sym p ∙ q))
 
 -- ---- a name that leads a text is the one that is called
@@ -178,20 +178,20 @@ bare f.Evr = f.Evr
 bare f.Bep = f.Bep
 bare (f.Out n) = f.Out 0
 
-pub called-is : (g : Function) (s : List ℕ) → leads (functionName g) s ≡ true → calledOf s ≡ By (bare g)
-unfolding calledOf leads
-called-is f.Rat s e = ap calledOf (leads-is (text "RAT") s e)
-called-is f.Inc s e = ap calledOf (leads-is (text "INC") s e)
-called-is f.Dec s e = ap calledOf (leads-is (text "DEC") s e)
-called-is f.Stp s e = ap calledOf (leads-is (text "STP") s e)
-called-is (f.Jmp n) s e = ap calledOf (leads-is (text "JMP") s e)
-called-is (f.Lop n) s e = ap calledOf (leads-is (text "LOP") s e)
-called-is f.Lps s e = ap calledOf (leads-is (text "LPS") s e)
-called-is f.Lpe s e = ap calledOf (leads-is (text "LPE") s e)
-called-is (f.Pas n) s e = ap calledOf (leads-is (text "PAS") s e)
-called-is (f.Tenths n) s e = ap calledOf (leads-is (text "PAS") s e)
-called-is (f.If n) s e = ap calledOf (leads-is (text "IF") s e)
-called-is (f.Evn n) s e = ap calledOf (leads-is (text "EVN") s e)
-called-is f.Evr s e = ap calledOf (leads-is (text "EVR") s e)
-called-is f.Bep s e = ap calledOf (leads-is (text "BEP") s e)
-called-is (f.Out n) s e = ap calledOf (leads-is (text "OUT") s e)
+pub called-is : (g : Function) (s : List ℕ) → leads (functionName g) s ≡ true → calledIn s ≡ By (bare g)
+unfolding calledIn leads
+called-is f.Rat s e = ap calledIn (leads-is (text "RAT") s e)
+called-is f.Inc s e = ap calledIn (leads-is (text "INC") s e)
+called-is f.Dec s e = ap calledIn (leads-is (text "DEC") s e)
+called-is f.Stp s e = ap calledIn (leads-is (text "STP") s e)
+called-is (f.Jmp n) s e = ap calledIn (leads-is (text "JMP") s e)
+called-is (f.Lop n) s e = ap calledIn (leads-is (text "LOP") s e)
+called-is f.Lps s e = ap calledIn (leads-is (text "LPS") s e)
+called-is f.Lpe s e = ap calledIn (leads-is (text "LPE") s e)
+called-is (f.Pas n) s e = ap calledIn (leads-is (text "PAS") s e)
+called-is (f.Tenths n) s e = ap calledIn (leads-is (text "PAS") s e)
+called-is (f.If n) s e = ap calledIn (leads-is (text "IF") s e)
+called-is (f.Evn n) s e = ap calledIn (leads-is (text "EVN") s e)
+called-is f.Evr s e = ap calledIn (leads-is (text "EVR") s e)
+called-is f.Bep s e = ap calledIn (leads-is (text "BEP") s e)
+called-is (f.Out n) s e = ap calledIn (leads-is (text "OUT") s e)

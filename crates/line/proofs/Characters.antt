@@ -6,7 +6,7 @@ use mathlib.Core.Bool.{true, false}
 use native.Mathlib.Omega.{arith}
 use borrow.Author.Tests.{le-leb, lt-leb, eq-eqb, ne-eqb}
 use Rattle.line.specs.declared.arriving.Arrival.the-variants.{End, Dropped, Kept}
-use Rattle.line.specs.Characters.{isReturn, isDropped, isLower, raised, arrivalOf, standing}
+use Rattle.line.specs.Characters.{isReturn, isDropped, isLower, raised, arrivalOf, canStand}
 
 -- ---- which class a byte is of
 module _ (b : ℕ) where
@@ -56,20 +56,20 @@ module _ (b : ℕ) where
   unfolding arrivalOf raised
   raises n d l = simp (no-return b n, d, l)
 
-  pub stands : isDropped b ≡ false → isLower b ≡ false → true ≡ standing b
-  unfolding standing
+  pub stands : isDropped b ≡ false → isLower b ≡ false → true ≡ canStand b
+  unfolding canStand
   stands d l = simp (d, l)
 
-  pub falls-dropped : isDropped b ≡ true → false ≡ standing b
-  unfolding standing
+  pub falls-dropped : isDropped b ≡ true → false ≡ canStand b
+  unfolding canStand
   falls-dropped d = simp d
 
-  pub falls-delete : b ≡ 127 → false ≡ standing b
-  unfolding standing isDropped
+  pub falls-delete : b ≡ 127 → false ≡ canStand b
+  unfolding canStand isDropped
   falls-delete e = rw e
 
-  pub falls-lower : isDropped b ≡ false → isLower b ≡ true → false ≡ standing b
-  unfolding standing
+  pub falls-lower : isDropped b ≡ false → isLower b ≡ true → false ≡ canStand b
+  unfolding canStand
   falls-lower d l = simp (d, l)
 
 pub ruleset arrivals = (ends, drops, drops-delete, keeps, raises, dropped-low, not-dropped, lower, below-lower, above-lower)

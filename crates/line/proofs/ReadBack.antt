@@ -15,10 +15,10 @@ use lib.Seq.{take-at, drop-append-seam}
 use borrow.Author.Tests.{leb-true}
 use Rattle.base.specs.If.{if_then_else_}
 use Rattle.base.proofs.Choices.{and-right}
-use Rattle.decimal.specs.Read.{readOf}
-use Rattle.decimal.specs.Short.{oneOf, twoOf, tenthsOf}
-use Rattle.decimal.specs.Print.{digit, printed, twoDigits, tenthsPrinted}
-use Rattle.decimal.specs.Writable.{writable}
+use Rattle.decimal.specs.Read.{read}
+use Rattle.decimal.specs.Short.{readOne, readTwo, readTenths}
+use Rattle.decimal.specs.Print.{lastDigit, print, printTwo, printTenths}
+use Rattle.decimal.specs.Writable.{isWritable}
 use Rattle.decimal.specs.declared.short.Short.{Short}
 use Rattle.decimal.proofs.Bytes.{bytes}
 use Rattle.decimal.proofs.Theorems.{round-trip, two-digits-read, tenths-read}
@@ -27,7 +27,7 @@ use Rattle.drive.specs.declared.rates.RateUnit.the-variants.{Um, Mm, Uh, Mh}
 use Rattle.drive.specs.declared.directions.Direction.{Direction}
 use Rattle.drive.specs.declared.directions.Direction.the-variants.{Infuse, Withdraw}
 use Rattle.words.specs.Functions.{number, fits}
-use Rattle.words.specs.Spelling.{functionName, datumText, rateUnitName, directionName}
+use Rattle.words.specs.Spelling.{functionName, datumText, rateLetters, directionLetters}
 use Rattle.words.specs.declared.commands.Units.{Units}
 use Rattle.words.specs.declared.commands.Units.the-variants.{Given}
 use Rattle.words.specs.declared.commands.Command.the-variants as c
@@ -37,18 +37,18 @@ use Rattle.words.proofs.Names.{name-length-is}
 use Rattle.line.specs.Spelling.{leads, isText}
 use Rattle.line.specs.Arguments.{ifNumber, ifDigits, unlessMore, unitsOf, unitsAtEnd, withoutUnits, amountOf}
 use Rattle.line.specs.Arguments.{rateAsked, headingOf, directionAsked}
-use Rattle.line.specs.Functions.{calledOf, pauseBy, pauseAsked, withDatum, functionBy, functionAsked}
+use Rattle.line.specs.Functions.{calledIn, pauseBy, pauseAsked, withDatum, functionBy, functionAsked}
 use Rattle.line.proofs.Asking.{sets}
 use Rattle.line.proofs.Behind.{by-called}
 
 -- ---- rates
-unit-length : (u : RateUnit) → length (rateUnitName u) ≡ 2
+unit-length : (u : RateUnit) → length (rateLetters u) ≡ 2
 unit-length Um = refl
 unit-length Mm = refl
 unit-length Uh = refl
 unit-length Mh = refl
 
-unit-back : (u : RateUnit) → unitsOf (rateUnitName u) ≡ Given u
+unit-back : (u : RateUnit) → unitsOf (rateLetters u) ≡ Given u
 unfolding unitsOf isText leads
 unit-back Um = refl
 unit-back Mm = refl
@@ -57,16 +57,16 @@ unit-back Mh = refl
 
 module _ (number : List ℕ) (u : RateUnit) where
   abbrev sent : List ℕ
-  sent = number ++ rateUnitName u
+  sent = number ++ rateLetters u
 
   before-units : length sent - 2 ≡ length number
-  before-units = omega (arith, length-append number (rateUnitName u), unit-length u)
+  before-units = omega (arith, length-append number (rateLetters u), unit-length u)
 
   units-back : unitsAtEnd sent ≡ Given u
   unfolding unitsAtEnd
   units-back =
       ap (λ (n : ℕ). unitsOf (drop n sent)) before-units
-      ∙ ap unitsOf (drop-append-seam number (rateUnitName u))
+      ∙ ap unitsOf (drop-append-seam number (rateLetters u))
       ∙ unit-back u
 
   amount-back : amountOf sent ≡ number
@@ -74,29 +74,29 @@ module _ (number : List ℕ) (u : RateUnit) where
   amount-back =
       ap (λ (v : Units). withoutUnits v sent) units-back
       ∙ ap (λ (n : ℕ). take n sent) before-units
-      ∙ take-at number (rateUnitName u) (length number) refl
+      ∙ take-at number (rateLetters u) (length number) refl
 
   some-length : length sent ≡ 0 → ⊥
-  some-length e = omega (arith, length-append number (rateUnitName u), unit-length u)
+  some-length e = omega (arith, length-append number (rateLetters u), unit-length u)
 
-pub rate-back : (x : ℕ) (u : RateUnit) → writable x ≡ true → rateAsked (printed x ++ rateUnitName u) ≡ c.SetRate x (Given u)
+pub rate-back : (x : ℕ) (u : RateUnit) → isWritable x ≡ true → rateAsked (print x ++ rateLetters u) ≡ c.SetRate x (Given u)
 unfolding rateAsked
 rate-back x u w =
-    let s = printed x ++ rateUnitName u in
-    sets c.AskRate s (ifNumber (λ y. c.SetRate y (unitsAtEnd s)) (readOf (amountOf s))) (some-length (printed x) u)
-    ∙ ap (ifNumber (λ y. c.SetRate y (unitsAtEnd s))) (ap readOf (amount-back (printed x) u) ∙ round-trip x w)
-    ∙ ap (c.SetRate x) (units-back (printed x) u)
+    let s = print x ++ rateLetters u in
+    sets c.AskRate s (ifNumber (λ y. c.SetRate y (unitsAtEnd s)) (read (amountOf s))) (some-length (print x) u)
+    ∙ ap (ifNumber (λ y. c.SetRate y (unitsAtEnd s))) (ap read (amount-back (print x) u) ∙ round-trip x w)
+    ∙ ap (c.SetRate x) (units-back (print x) u)
 
 -- ---- directions
-pub direction-back : (d : Direction) → directionAsked (directionName d) ≡ c.SetDirection d
+pub direction-back : (d : Direction) → directionAsked (directionLetters d) ≡ c.SetDirection d
 unfolding directionAsked headingOf isText leads
 direction-back Infuse = refl
 direction-back Withdraw = refl
 
 -- ---- functions
 -- whatever stands behind a function's name is taken for its datum
-by-name : (g : Function) (t : List ℕ) → functionBy (calledOf (functionName g ++ t)) (functionName g ++ t) ≡ withDatum g t
-unfolding calledOf leads
+by-name : (g : Function) (t : List ℕ) → functionBy (calledIn (functionName g ++ t)) (functionName g ++ t) ≡ withDatum g t
+unfolding calledIn leads
 by-name f.Rat t = refl
 by-name f.Inc t = refl
 by-name f.Dec t = refl
@@ -123,25 +123,25 @@ name-length g = rw (name-length-is g) (go (eqb (number g) 10))
 behind-name : (g : Function) (t : List ℕ) → functionAsked (functionName g ++ t) ≡ withDatum g t
 behind-name g t =
     let s = functionName g ++ t in
-    by-called s (λ e. omega (arith, length-append (functionName g) t, name-length g)) (calledOf s) refl ∙ by-name g t
+    by-called s (λ e. omega (arith, length-append (functionName g) t, name-length g)) (calledIn s) refl ∙ by-name g t
 
 at-most : (t : Bool) (n most : ℕ) → (t && leb n most) ≡ true → n ≤ most
 at-most t n most e = leb-true n most (and-right t (leb n most) e)
 
-two-back : (g : ℕ → Function) (n : ℕ) → n ≤ 99 → ifDigits (λ k. c.SetFunction (g k)) (twoOf (twoDigits n)) ≡ c.SetFunction (g n)
+two-back : (g : ℕ → Function) (n : ℕ) → n ≤ 99 → ifDigits (λ k. c.SetFunction (g k)) (readTwo (printTwo n)) ≡ c.SetFunction (g n)
 two-back g n h = ap (ifDigits (λ k. c.SetFunction (g k))) (two-digits-read n (omega arith))
 
-seconds-back : (n : ℕ) → n ≤ 99 → pauseAsked (twoDigits n) ≡ c.SetFunction (f.Pas n)
+seconds-back : (n : ℕ) → n ≤ 99 → pauseAsked (printTwo n) ≡ c.SetFunction (f.Pas n)
 unfolding pauseAsked
-seconds-back n h = ap (λ (r : Short). pauseBy r (tenthsOf (twoDigits n))) (two-digits-read n (omega arith))
+seconds-back n h = ap (λ (r : Short). pauseBy r (readTenths (printTwo n))) (two-digits-read n (omega arith))
 
 -- three characters are no whole seconds
-tenths-back : (n : ℕ) → n ≤ 99 → pauseAsked (tenthsPrinted n) ≡ c.SetFunction (f.Tenths n)
-unfolding pauseAsked twoOf tenthsPrinted
+tenths-back : (n : ℕ) → n ≤ 99 → pauseAsked (printTenths n) ≡ c.SetFunction (f.Tenths n)
+unfolding pauseAsked readTwo printTenths
 tenths-back n h = ap (ifDigits (λ k. c.SetFunction (f.Tenths k))) (tenths-read n (omega arith))
 
-level-back : (n : ℕ) → n ≤ 1 → ifDigits (λ k. c.SetFunction (f.Out k)) (oneOf (digit n ∷ [])) ≡ c.SetFunction (f.Out n)
-unfolding oneOf
+level-back : (n : ℕ) → n ≤ 1 → ifDigits (λ k. c.SetFunction (f.Out k)) (readOne (lastDigit n ∷ [])) ≡ c.SetFunction (f.Out n)
+unfolding readOne
 level-back n h = simp bytes (ap (λ (k : ℕ). c.SetFunction (f.Out k)) (mod-eq-of-lt {n = n} {m = 10} (omega arith)))
 
 datum-back : (g : Function) → fits 99 g ≡ true → withDatum g (datumText g) ≡ c.SetFunction g

@@ -8,9 +8,9 @@ use native.Mathlib.Omega.{arith}
 use lib.Dec.{eqb}
 use lib.ListN.{length, drop}
 use Rattle.base.specs.If.{if_then_else_}
-use Rattle.decimal.specs.Read.{readOf}
-use Rattle.decimal.specs.Short.{oneOf, twoOf, tenthsOf}
-use Rattle.decimal.specs.Writable.{writable}
+use Rattle.decimal.specs.Read.{read}
+use Rattle.decimal.specs.Short.{readOne, readTwo, readTenths}
+use Rattle.decimal.specs.Writable.{isWritable}
 use Rattle.decimal.specs.declared.input.Reading.{Reading}
 use Rattle.decimal.specs.declared.input.Reading.the-variants.{Number, NoNumber}
 use Rattle.decimal.specs.declared.short.Short.{Short}
@@ -37,18 +37,18 @@ use Rattle.words.specs.declared.commands.Command.{Command}
 use Rattle.words.specs.declared.commands.Command.the-variants as c
 
 -- a command that brings nothing, a number, a short datum
-zero-writable : writable 0 ≡ true
-unfolding writable
+zero-writable : isWritable 0 ≡ true
+unfolding isWritable
 zero-writable = refl
 
 nothing : (command : Command) → amount command ≡ 0 → shortDatum command ≡ 0 → Sendable command
-nothing command p q = record { number-writable = ap writable p ∙ zero-writable; datum-short = omega arith }
+nothing command p q = record { number-writable = ap isWritable p ∙ zero-writable; datum-short = omega arith }
 
-a-number : (command : Command) → writable (amount command) ≡ true → shortDatum command ≡ 0 → Sendable command
+a-number : (command : Command) → isWritable (amount command) ≡ true → shortDatum command ≡ 0 → Sendable command
 a-number command p q = record { number-writable = p; datum-short = omega arith }
 
 a-datum : (command : Command) → amount command ≡ 0 → shortDatum command ≤ 99 → Sendable command
-a-datum command p q = record { number-writable = ap writable p ∙ zero-writable; datum-short = q }
+a-datum command p q = record { number-writable = ap isWritable p ∙ zero-writable; datum-short = q }
 
 pub malformed : Sendable c.Malformed
 malformed = nothing c.Malformed refl refl
@@ -61,11 +61,11 @@ either false a b p q = q
 -- a setting of a number that was read, and of digits that were read
 if-number :
     (setting : ℕ → Command) (s : List ℕ)
-    → ((x : ℕ) → writable x ≡ true → Sendable (setting x))
-    → Sendable (ifNumber setting (readOf s))
-if-number setting s p = go (readOf s) refl
+    → ((x : ℕ) → isWritable x ≡ true → Sendable (setting x))
+    → Sendable (ifNumber setting (read s))
+if-number setting s p = go (read s) refl
   where
-    go : (r : Reading) → readOf s ≡ r → Sendable (ifNumber setting r)
+    go : (r : Reading) → read s ≡ r → Sendable (ifNumber setting r)
     go (Number x) e = p x (read-writable s x e)
     go NoNumber e = malformed
 
@@ -94,19 +94,19 @@ module _ (s : List ℕ) where
   alone : (g : Function) → datum g ≡ 0 → Sendable (unlessMore s (c.SetFunction g))
   alone g e = unless-more s (c.SetFunction g) (set-function g (omega arith))
 
-  one-or-two : (g : ℕ → Function) → ((n : ℕ) → datum (g n) ≡ n) → Sendable (ifDigits (λ n. c.SetFunction (g n)) (twoOf s))
-  one-or-two g e = if-digits (λ n. c.SetFunction (g n)) (twoOf s) (λ n p. set-function (g n) (omega (arith, e n, two-small s n p)))
+  one-or-two : (g : ℕ → Function) → ((n : ℕ) → datum (g n) ≡ n) → Sendable (ifDigits (λ n. c.SetFunction (g n)) (readTwo s))
+  one-or-two g e = if-digits (λ n. c.SetFunction (g n)) (readTwo s) (λ n p. set-function (g n) (omega (arith, e n, two-small s n p)))
 
   pause : Sendable (functions.pauseAsked s)
   unfolding functions.pauseAsked
-  pause = go (twoOf s) refl
+  pause = go (readTwo s) refl
     where
-      go : (r : Short) → twoOf s ≡ r → Sendable (functions.pauseBy r (tenthsOf s))
+      go : (r : Short) → readTwo s ≡ r → Sendable (functions.pauseBy r (readTenths s))
       go (Digits n) e = set-function (f.Pas n) (two-small s n e)
-      go NoDigits e = if-digits (λ n. c.SetFunction (f.Tenths n)) (tenthsOf s) (λ n p. set-function (f.Tenths n) (tenths-small s n p))
+      go NoDigits e = if-digits (λ n. c.SetFunction (f.Tenths n)) (readTenths s) (λ n p. set-function (f.Tenths n) (tenths-small s n p))
 
-  level : Sendable (ifDigits (λ n. c.SetFunction (f.Out n)) (oneOf s))
-  level = if-digits (λ n. c.SetFunction (f.Out n)) (oneOf s) (λ n p. set-function (f.Out n) (omega (arith, one-small s n p)))
+  level : Sendable (ifDigits (λ n. c.SetFunction (f.Out n)) (readOne s))
+  level = if-digits (λ n. c.SetFunction (f.Out n)) (readOne s) (λ n p. set-function (f.Out n) (omega (arith, one-small s n p)))
 
   with-datum : (g : Function) → Sendable (functions.withDatum g s)
   with-datum f.Rat = alone f.Rat refl
@@ -167,17 +167,17 @@ module _ (s : List ℕ) where
   unfolding asked.phaseAsked
   phase =
       query s c.AskPhase refl refl
-      (if-digits c.SetPhase (twoOf s) (λ n p. a-datum (c.SetPhase n) refl (two-small s n p)))
+      (if-digits c.SetPhase (readTwo s) (λ n p. a-datum (c.SetPhase n) refl (two-small s n p)))
 
   run : Sendable (asked.runAsked s)
   unfolding asked.runAsked
   run =
       query s c.Run refl refl
-      (if-digits c.RunFrom (twoOf s) (λ n p. a-datum (c.RunFrom n) refl (two-small s n p)))
+      (if-digits c.RunFrom (readTwo s) (λ n p. a-datum (c.RunFrom n) refl (two-small s n p)))
 
   function : Sendable (functions.functionAsked s)
   unfolding functions.functionAsked
-  function = query s c.AskFunction refl refl (function-by (functions.calledOf s) s)
+  function = query s c.AskFunction refl refl (function-by (functions.calledIn s) s)
 
 by-name : (name : Name) (s : List ℕ) → Sendable (askedBy name s)
 by-name n.Dia s = diameter s

@@ -19,10 +19,10 @@ use lib.Seq.{take-all, take-append-le, take-suc-set}
 use borrow.Author.Tests.{lt-ltb, le-ltb, ltb-true, ltb-false, le-leb, leb-true}
 use Rattle.base.specs.If.{if_then_else_}
 use Rattle.base.proofs.Choices.{and-left, and-right}
-use Rattle.line.specs.Characters.{isReturn, isDropped, isLower, raised, arrivalOf, standing}
-use Rattle.line.specs.Lines.{emptyLine, withCharacter, afterArrival, afterByte, text}
-use Rattle.line.specs.Lines.{allStanding, isSoundLine, commandIn, kept, overLong}
-use Rattle.line.specs.Addresses.{behindAddress}
+use Rattle.line.specs.Characters.{isReturn, isDropped, isLower, raised, arrivalOf, canStand}
+use Rattle.line.specs.Lines.{emptyLine, withCharacter, afterArrival, afterByte, lineText}
+use Rattle.line.specs.Lines.{allStand, isSoundLine, commandIn, kept, overLong}
+use Rattle.line.specs.Addresses.{unaddressed}
 use Rattle.line.specs.Collected.{collect, characters, Holds}
 use Rattle.line.specs.Commands.{commandOf}
 use Rattle.line.specs.Sendable.{Sendable}
@@ -38,7 +38,7 @@ use Rattle.line.proofs.Sent.{malformed, command-sendable}
 record Under (l : Line) (cs : List ℕ) : Type 0 where
   places : length (l .bytes) ≡ 40
   count : l .len ≡ min 40 (length cs)
-  kept : text l ≡ take 40 cs
+  kept : lineText l ≡ take 40 cs
   more : l .overlong ≡ ltb 40 (length cs)
 
 none-yet : Under emptyLine []
@@ -123,7 +123,7 @@ collected bs = let u = collecting emptyLine [] bs none-yet in record { kept = u 
 
 -- ---- soundness
 pub empty-sound : isSoundLine emptyLine ≡ true
-unfolding isSoundLine allStanding
+unfolding isSoundLine allStand
 empty-sound = refl
 
 -- a letter that was raised is neither dropped nor raised again
@@ -139,35 +139,35 @@ module _ (b : ℕ) (e : isLower b ≡ true) where
   upper-not-lower = below-lower (b - 32) (omega (arith, letter-bounds .0, letter-bounds .1))
 
 -- what a byte becomes can stand in a line
-raised-stands : (b : ℕ) → isDropped b ≡ false → standing (raised b) ≡ true
-unfolding standing raised
+raised-stands : (b : ℕ) → isDropped b ≡ false → canStand (raised b) ≡ true
+unfolding canStand raised
 raised-stands b d = go (isLower b) refl
   where
     go : (t : Bool) → isLower b ≡ t → (not (isDropped (if t then b - 32 else b)) && not (isLower (if t then b - 32 else b))) ≡ true
     go true e = simp (upper-kept b e, upper-not-lower b e)
     go false e = simp (d, e)
 
-all-more : (s : List ℕ) (c : ℕ) → allStanding s ≡ true → standing c ≡ true → allStanding (s ++ (c ∷ [])) ≡ true
-unfolding allStanding
+all-more : (s : List ℕ) (c : ℕ) → allStand s ≡ true → canStand c ≡ true → allStand (s ++ (c ∷ [])) ≡ true
+unfolding allStand
 all-more [] c p q = simp q
 all-more (b ∷ s) c p q =
-    let r = all-more s c (and-right (standing b) (allStanding s) p) q in
-    simp (and-left (standing b) (allStanding s) p, r)
+    let r = all-more s c (and-right (canStand b) (allStand s) p) q in
+    simp (and-left (canStand b) (allStand s) p, r)
 
 -- the three clauses of a sound line
 record Sound (l : Line) : Type 0 where
   short : l .len ≤ 40
   over : (not (l .overlong) || leb 40 (l .len)) ≡ true
-  stand : allStanding (text l) ≡ true
+  stand : allStand (lineText l) ≡ true
 
 sound-facts : (l : Line) → isSoundLine l ≡ true → Sound l
 unfolding isSoundLine
 sound-facts l e =
-    let p = and-left (leb (l .len) 40 && (not (l .overlong) || leb 40 (l .len))) (allStanding (text l)) e in
+    let p = and-left (leb (l .len) 40 && (not (l .overlong) || leb 40 (l .len))) (allStand (lineText l)) e in
     record {
       short = leb-true (l .len) 40 (and-left (leb (l .len) 40) (not (l .overlong) || leb 40 (l .len)) p);
       over = and-right (leb (l .len) 40) (not (l .overlong) || leb 40 (l .len)) p;
-      stand = and-right (leb (l .len) 40 && (not (l .overlong) || leb 40 (l .len))) (allStanding (text l)) e;
+      stand = and-right (leb (l .len) 40 && (not (l .overlong) || leb 40 (l .len))) (allStand (lineText l)) e;
     }
 
 facts-sound : (l : Line) → Sound l → isSoundLine l ≡ true
@@ -179,7 +179,7 @@ not-over : (t : Bool) (n : ℕ) → (not t || leb 40 n) ≡ true → n < 40 → 
 not-over true n e h = let z : 40 ≤ n = leb-true 40 n e in absurd (omega arith)
 not-over false n e h = refl
 
-character-sound : (l : Line) (c : ℕ) → length (l .bytes) ≡ 40 → standing c ≡ true → Sound l → Sound (withCharacter l c)
+character-sound : (l : Line) (c : ℕ) → length (l .bytes) ≡ 40 → canStand c ≡ true → Sound l → Sound (withCharacter l c)
 unfolding withCharacter
 character-sound l c p q s = go (ltb (l .len) 40) refl
   where
@@ -191,9 +191,9 @@ character-sound l c p q s = go (ltb (l .len) 40) refl
           short = omega arith;
           over = simp (not-over (l .overlong) (l .len) (s .over) h);
           stand =
-              ap (λ (n : ℕ). allStanding (take n (set (l .bytes) (l .len) c))) (add-one (l .len))
-              ∙ ap allStanding (take-suc-set (l .bytes) (l .len) c k)
-              ∙ all-more (text l) c (s .stand) q;
+              ap (λ (n : ℕ). allStand (take n (set (l .bytes) (l .len) c))) (add-one (l .len))
+              ∙ ap allStand (take-suc-set (l .bytes) (l .len) c k)
+              ∙ all-more (lineText l) c (s .stand) q;
         }
     go false e =
         record { short = s .short; over = le-leb 40 (l .len) (ltb-false (l .len) 40 e); stand = s .stand }
@@ -229,6 +229,6 @@ pub asked-sendable : (l : Line) → Sendable (commandIn l)
 unfolding commandIn
 asked-sendable l = go (l .overlong)
   where
-    go : (t : Bool) → Sendable (if t then c.Malformed else commandOf (behindAddress (text l)))
+    go : (t : Bool) → Sendable (if t then c.Malformed else commandOf (unaddressed (lineText l)))
     go true = malformed
-    go false = command-sendable (behindAddress (text l))
+    go false = command-sendable (unaddressed (lineText l))

@@ -16,5 +16,5 @@ unfoldable pub addressOf : List ℕ → ℕ
 addressOf s = numberFrom 0 (take (addressWidth s) s)
 
 -- the text without them
-unfoldable pub behindAddress : List ℕ → List ℕ
-behindAddress s = drop (addressWidth s) s
+unfoldable pub unaddressed : List ℕ → List ℕ
+unaddressed s = drop (addressWidth s) s

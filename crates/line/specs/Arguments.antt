@@ -6,8 +6,8 @@ use lib.Dec.{eqb}
 use lib.ListN.{length, take, drop}
 use Rattle.base.specs.If.{if_then_else_}
 use Rattle.base.specs.Text.{text}
-use Rattle.decimal.specs.Read.{readOf}
-use Rattle.decimal.specs.Short.{twoOf}
+use Rattle.decimal.specs.Read.{read}
+use Rattle.decimal.specs.Short.{readTwo}
 use Rattle.decimal.specs.declared.input.Reading.{Reading}
 use Rattle.decimal.specs.declared.input.Reading.the-variants.{Number, NoNumber}
 use Rattle.decimal.specs.declared.short.Short.{Short}
@@ -15,7 +15,7 @@ use Rattle.decimal.specs.declared.short.Short.the-variants.{Digits, NoDigits}
 use Rattle.drive.specs.declared.rates.RateUnit.{RateUnit}
 use Rattle.drive.specs.declared.rates.RateUnit.the-variants.{Um, Mm, Uh, Mh}
 use Rattle.drive.specs.declared.directions.Direction.the-variants.{Infuse, Withdraw}
-use Rattle.words.specs.Spelling.{rateUnitName, directionName}
+use Rattle.words.specs.Spelling.{rateLetters, directionLetters}
 use Rattle.words.specs.declared.commands.Units.{Units}
 use Rattle.words.specs.declared.commands.Units.the-variants.{Own, Given}
 use Rattle.words.specs.declared.commands.Command.{Command}
@@ -40,16 +40,16 @@ ifDigits setting NoDigits = c.Malformed
 
 -- DIA number
 unfoldable pub diameterAsked : List ℕ → Command
-diameterAsked s = orQuery c.AskDiameter s (ifNumber c.SetDiameter (readOf s))
+diameterAsked s = orQuery c.AskDiameter s (ifNumber c.SetDiameter (read s))
 
 -- VOL number
 unfoldable pub volumeAsked : List ℕ → Command
-volumeAsked s = orQuery c.AskVolume s (ifNumber c.SetVolume (readOf s))
+volumeAsked s = orQuery c.AskVolume s (ifNumber c.SetVolume (read s))
 
 -- the unit, among some, whose name a text is
 abbrev pub unitsAmong : List RateUnit → List ℕ → Units
 unitsAmong [] s = Own
-unitsAmong (u ∷ us) s = if isText (rateUnitName u) s then Given u else unitsAmong us s
+unitsAmong (u ∷ us) s = if isText (rateLetters u) s then Given u else unitsAmong us s
 
 unfoldable pub unitsOf : List ℕ → Units
 unitsOf s = unitsAmong (Um ∷ Mm ∷ Uh ∷ Mh ∷ []) s
@@ -68,7 +68,7 @@ amountOf s = withoutUnits (unitsAtEnd s) s
 
 -- RAT number, with or without UM, MM, UH or MH
 unfoldable pub rateAsked : List ℕ → Command
-rateAsked s = orQuery c.AskRate s (ifNumber (λ x. c.SetRate x (unitsAtEnd s)) (readOf (amountOf s)))
+rateAsked s = orQuery c.AskRate s (ifNumber (λ x. c.SetRate x (unitsAtEnd s)) (read (amountOf s)))
 
 -- INF, WDR or REV, and no more
 abbrev pub headedBy : Heading → List ℕ → List ℕ → Heading
@@ -76,9 +76,9 @@ headedBy h word s = if isText word s then h else heading.NoHeading
 
 unfoldable pub headingOf : List ℕ → Heading
 headingOf s =
-    if isText (directionName Infuse) s
+    if isText (directionLetters Infuse) s
     then heading.To Infuse
-    else if isText (directionName Withdraw) s
+    else if isText (directionLetters Withdraw) s
     then heading.To Withdraw
     else headedBy heading.Reverse (text "REV") s
 
@@ -102,11 +102,11 @@ clearAsked s = clearBy (headingOf s)
 
 -- PHN n
 unfoldable pub phaseAsked : List ℕ → Command
-phaseAsked s = orQuery c.AskPhase s (ifDigits c.SetPhase (twoOf s))
+phaseAsked s = orQuery c.AskPhase s (ifDigits c.SetPhase (readTwo s))
 
 -- RUN, RUN n
 unfoldable pub runAsked : List ℕ → Command
-runAsked s = orQuery c.Run s (ifDigits c.RunFrom (twoOf s))
+runAsked s = orQuery c.Run s (ifDigits c.RunFrom (readTwo s))
 
 -- a command with no argument, a function with no datum: whatever stands there is malformed
 unfoldable pub unlessMore : List ℕ → Command → Command

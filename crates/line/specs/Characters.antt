@@ -27,5 +27,5 @@ unfoldable pub arrivalOf : ℕ → Arrival
 arrivalOf b = if isReturn b then End else if isDropped b then Dropped else Kept (raised b)
 
 -- a character that a line can hold is one that no rule drops or raises   (01, Calls: fields in their range)
-unfoldable pub standing : ℕ → Bool
-standing c = not (isDropped c) && not (isLower c)
+unfoldable pub canStand : ℕ → Bool
+canStand c = not (isDropped c) && not (isLower c)

@@ -7,7 +7,7 @@ use lib.Dec.{ltb}
 use lib.ListN.{length, take}
 use Rattle.base.specs.If.{if_then_else_}
 use Rattle.line.specs.Characters.{isReturn, isDropped, raised}
-use Rattle.line.specs.Lines.{afterByte, text}
+use Rattle.line.specs.Lines.{afterByte, lineText}
 use Rattle.line.specs.declared.lines.Line.{Line}
 
 -- a line after some bytes more
@@ -22,5 +22,5 @@ characters (b ∷ bs) = if isReturn b || isDropped b then characters bs else rai
 
 -- a line holds the first 40 of some characters, and is over-long exactly where there are more
 pub record Holds (l : Line) (cs : List ℕ) : Type 0 where
-  pub kept : text l ≡ take 40 cs
+  pub kept : lineText l ≡ take 40 cs
   pub more : l .overlong ≡ ltb 40 (length cs)

@@ -5,7 +5,7 @@ use mathlib.Core.List.{List, [], _∷_}
 use lib.Dec.{eqb}
 use lib.ListN.{length, drop}
 use Rattle.base.specs.If.{if_then_else_}
-use Rattle.decimal.specs.Short.{oneOf, twoOf, tenthsOf}
+use Rattle.decimal.specs.Short.{readOne, readTwo, readTenths}
 use Rattle.decimal.specs.declared.short.Short.{Short}
 use Rattle.decimal.specs.declared.short.Short.the-variants.{Digits, NoDigits}
 use Rattle.words.specs.Spelling.{functionName}
@@ -46,8 +46,8 @@ functions =
     ∷ f.Out 0
     ∷ []
 
-unfoldable pub calledOf : List ℕ → Called
-calledOf s = calledAmong functions s
+unfoldable pub calledIn : List ℕ → Called
+calledIn s = calledAmong functions s
 
 -- a function with another datum; one that takes none stays as it is
 abbrev pub holding : Function → ℕ → Function
@@ -76,7 +76,7 @@ pauseBy (Digits n) tenths = SetFunction (f.Pas n)
 pauseBy NoDigits tenths = ifDigits (λ n. SetFunction (f.Tenths n)) tenths
 
 unfoldable pub pauseAsked : List ℕ → Command
-pauseAsked s = pauseBy (twoOf s) (tenthsOf s)
+pauseAsked s = pauseBy (readTwo s) (readTenths s)
 
 -- what may stand behind each name: nothing; one or two digits; for PAS also tenths; for OUT one digit
 abbrev pub withDatum : Function → List ℕ → Command
@@ -84,17 +84,17 @@ withDatum f.Rat s = unlessMore s (SetFunction f.Rat)
 withDatum f.Inc s = unlessMore s (SetFunction f.Inc)
 withDatum f.Dec s = unlessMore s (SetFunction f.Dec)
 withDatum f.Stp s = unlessMore s (SetFunction f.Stp)
-withDatum (f.Jmp _) s = ifDigits (λ n. SetFunction (f.Jmp n)) (twoOf s)
-withDatum (f.Lop _) s = ifDigits (λ n. SetFunction (f.Lop n)) (twoOf s)
+withDatum (f.Jmp _) s = ifDigits (λ n. SetFunction (f.Jmp n)) (readTwo s)
+withDatum (f.Lop _) s = ifDigits (λ n. SetFunction (f.Lop n)) (readTwo s)
 withDatum f.Lps s = unlessMore s (SetFunction f.Lps)
 withDatum f.Lpe s = unlessMore s (SetFunction f.Lpe)
 withDatum (f.Pas _) s = pauseAsked s
 withDatum (f.Tenths _) s = pauseAsked s
-withDatum (f.If _) s = ifDigits (λ n. SetFunction (f.If n)) (twoOf s)
-withDatum (f.Evn _) s = ifDigits (λ n. SetFunction (f.Evn n)) (twoOf s)
+withDatum (f.If _) s = ifDigits (λ n. SetFunction (f.If n)) (readTwo s)
+withDatum (f.Evn _) s = ifDigits (λ n. SetFunction (f.Evn n)) (readTwo s)
 withDatum f.Evr s = unlessMore s (SetFunction f.Evr)
 withDatum f.Bep s = unlessMore s (SetFunction f.Bep)
-withDatum (f.Out _) s = ifDigits (λ n. SetFunction (f.Out n)) (oneOf s)
+withDatum (f.Out _) s = ifDigits (λ n. SetFunction (f.Out n)) (readOne s)
 
 -- FUN f
 abbrev pub functionBy : Called → List ℕ → Command
@@ -102,4 +102,4 @@ functionBy (By g) s = withDatum g (drop (length (functionName g)) s)
 functionBy NoFunction s = Malformed
 
 unfoldable pub functionAsked : List ℕ → Command
-functionAsked s = if eqb (length s) 0 then AskFunction else functionBy (calledOf s) s
+functionAsked s = if eqb (length s) 0 then AskFunction else functionBy (calledIn s) s

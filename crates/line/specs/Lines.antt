@@ -6,8 +6,8 @@ use mathlib.Core.List.{List, [], _∷_}
 use lib.Dec.{leb, ltb}
 use lib.ListN.{take, set, replicate}
 use Rattle.base.specs.If.{if_then_else_}
-use Rattle.line.specs.Characters.{arrivalOf, standing}
-use Rattle.line.specs.Addresses.{addressOf, behindAddress}
+use Rattle.line.specs.Characters.{arrivalOf, canStand}
+use Rattle.line.specs.Addresses.{addressOf, unaddressed}
 use Rattle.line.specs.Commands.{commandOf}
 use Rattle.line.specs.declared.arriving.Arrival.{Arrival}
 use Rattle.line.specs.declared.arriving.Arrival.the-variants.{End, Dropped, Kept}
@@ -42,22 +42,22 @@ unfoldable pub afterByte : Line → ℕ → Arrived
 afterByte l b = afterArrival l (arrivalOf b)
 
 -- the characters that are kept
-abbrev pub text : Line → List ℕ
-text l = take (l .len) (l .bytes)
+abbrev pub lineText : Line → List ℕ
+lineText l = take (l .len) (l .bytes)
 
 -- each character is one that a line can hold
-unfoldable pub allStanding : List ℕ → Bool
-allStanding [] = true
-allStanding (c ∷ s) = standing c && allStanding s
+unfoldable pub allStand : List ℕ → Bool
+allStand [] = true
+allStand (c ∷ s) = canStand c && allStand s
 
 -- at most 40 characters, over-long only with 40, each character one that a line can hold
 unfoldable pub isSoundLine : Line → Bool
-isSoundLine l = leb (l .len) 40 && (not (l .overlong) || leb 40 (l .len)) && allStanding (text l)
+isSoundLine l = leb (l .len) 40 && (not (l .overlong) || leb 40 (l .len)) && allStand (lineText l)
 
 -- the address that a line bears
 unfoldable pub addressIn : Line → ℕ
-addressIn l = addressOf (text l)
+addressIn l = addressOf (lineText l)
 
 -- what it asks for behind its address; an over-long line is malformed
 unfoldable pub commandIn : Line → Command
-commandIn l = if l .overlong then Malformed else commandOf (behindAddress (text l))
+commandIn l = if l .overlong then Malformed else commandOf (unaddressed (lineText l))

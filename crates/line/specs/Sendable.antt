@@ -3,10 +3,10 @@
 use Prim.Native.Nat.{_≤_}
 use mathlib.Core.Path.{_≡_}
 use mathlib.Core.Bool.{true}
-use Rattle.decimal.specs.Writable.{writable}
+use Rattle.decimal.specs.Writable.{isWritable}
 use Rattle.words.specs.Commands.{amount, shortDatum}
 use Rattle.words.specs.declared.commands.Command.{Command}
 
 pub record Sendable (command : Command) : Type 0 where
-  pub number-writable : writable (amount command) ≡ true
+  pub number-writable : isWritable (amount command) ≡ true
   pub datum-short : shortDatum command ≤ 99

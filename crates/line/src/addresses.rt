@@ -1,12 +1,12 @@
 // The address in front of a line: up to two digits.
 ghost use mathlib.Core.Path.{_≡_};
 ghost use Rattle.decimal.specs.Read.{isDigit};
-ghost use Rattle.line.specs.Addresses.{addressWidth, addressOf, behindAddress};
+ghost use Rattle.line.specs.Addresses.{addressWidth, addressOf, unaddressed};
 use crate::spelling::letter;
 use decimal::Short;
 
 // How many digits of `s` are its address.
-fn width(s: &[u8]) -> usize
+fn address_width(s: &[u8]) -> usize
     ensures { λ r. ⌜ r ≡ addressWidth (now (s .entry)) ⌝ }
 {
     if is_digit(letter(s, 0)) {
@@ -31,7 +31,7 @@ fn is_digit(b: u8) -> bool
 pub fn address_of(s: &[u8]) -> u8
     ensures { λ r. ⌜ r ≡ addressOf (now (s .entry)) ⌝ }
 {
-    let n = width(s);
+    let n = address_width(s);
     match decimal::read_two(&s[..n]) {
         Short::Digits(a) => a,
         Short::NoDigits => 0,
@@ -40,8 +40,8 @@ pub fn address_of(s: &[u8]) -> u8
 
 // What follows the address.
 pub fn unaddressed(s: &[u8]) -> &[u8]
-    ensures { λ r. ⌜ now r ≡ behindAddress (now (s .entry)) ⌝ }
+    ensures { λ r. ⌜ now r ≡ unaddressed (now (s .entry)) ⌝ }
 {
-    let n = width(s);
+    let n = address_width(s);
     &s[n..]
 }

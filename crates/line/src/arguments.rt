@@ -54,7 +54,7 @@ pub fn rate_asked(s: &[u8]) -> Command
         return Command::AskRate;
     }
     let units = units_at_end(s);
-    match decimal::read(amount(s)) {
+    match decimal::read(amount_of(s)) {
         Reading::Number(x) => Command::SetRate(x, units),
         Reading::NoNumber => Command::Malformed,
     }
@@ -91,7 +91,7 @@ fn units_of(volume: u8, time: u8) -> Units
 }
 
 // A rate without the units at its end.
-fn amount(s: &[u8]) -> &[u8]
+fn amount_of(s: &[u8]) -> &[u8]
     ensures { λ r. ⌜ now r ≡ amountOf (now (s .entry)) ⌝ }
 {
     match units_at_end(s) {

@@ -1,6 +1,6 @@
 // What one byte does to a line.
 ghost use mathlib.Core.Path.{_≡_};
-ghost use Rattle.line.specs.Characters.{arrivalOf, standing};
+ghost use Rattle.line.specs.Characters.{arrivalOf, canStand};
 
 pub enum Arrival {
     End,
@@ -23,7 +23,7 @@ pub fn arrival_of(b: u8) -> Arrival
 
 // Whether a line can hold the character `c`: one that arrives as it is.
 pub fn can_stand(c: u8) -> bool
-    ensures { λ r. ⌜ r ≡ standing c ⌝ }
+    ensures { λ r. ⌜ r ≡ canStand c ⌝ }
 {
     match c {
         0..=32 => false,

@@ -1,7 +1,7 @@
 // What stands behind FUN: the name of a function, and its datum.
 ghost use mathlib.Core.Path.{_≡_};
 ghost use Rattle.words.specs.Spelling.{functionName};
-ghost use Rattle.line.specs.Functions.{calledOf, calledBy, holding, ifHeld, pauseAsked, withDatum, functionAsked};
+ghost use Rattle.line.specs.Functions.{calledIn, calledBy, holding, ifHeld, pauseAsked, withDatum, functionAsked};
 use crate::arguments::unless_more;
 use crate::spelling::leads;
 use crate::spelling::letter;
@@ -33,7 +33,7 @@ pub fn function_asked(s: &[u8]) -> Command
 
 // The function whose name leads `s`.
 fn called_in(s: &[u8]) -> Called
-    ensures { λ r. ⌜ r ≡ calledOf (now (s .entry)) ⌝ }
+    ensures { λ r. ⌜ r ≡ calledIn (now (s .entry)) ⌝ }
 {
     let f = only_function(s);
     let name = f.letters();
@@ -46,7 +46,7 @@ fn called_in(s: &[u8]) -> Called
 
 // The only function whose name can lead `s`: up to three letters tell which, and letters that begin no name leave RAT.
 fn only_function(s: &[u8]) -> Function
-    ensures { λ r. ⌜ calledOf (now (s .entry)) ≡ calledBy r (functionName r) (now (s .entry)) ⌝ }
+    ensures { λ r. ⌜ calledIn (now (s .entry)) ≡ calledBy r (functionName r) (now (s .entry)) ⌝ }
 {
     let second = letter(s, 1);
     let third = letter(s, 2);

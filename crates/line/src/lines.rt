@@ -1,6 +1,6 @@
 // The line under way: its first 40 characters, how many they are, and whether there were more.
 ghost use mathlib.Core.Path.{_≡_};
-ghost use Rattle.line.specs.Lines.{emptyLine, withCharacter, afterByte, allStanding, isSoundLine, addressIn, commandIn};
+ghost use Rattle.line.specs.Lines.{emptyLine, withCharacter, afterByte, allStand, isSoundLine, addressIn, commandIn};
 ghost use Prim.Native.Nat.{min};
 use crate::addresses::address_of;
 use crate::addresses::unaddressed;
@@ -35,7 +35,7 @@ impl Line {
     }
 
     // One byte more. A byte that ends the line leaves it as it is, for its command to be read.
-    pub fn after(self, b: u8) -> Arrived
+    pub fn after_byte(self, b: u8) -> Arrived
         ensures { λ r. ⌜ r ≡ afterByte self b ⌝ }
     {
         match arrival_of(b) {
@@ -83,7 +83,7 @@ impl Line {
     }
 
     // The address that the line bears, 0 if none.
-    pub fn address(self) -> u8
+    pub fn address_in(self) -> u8
         ensures { λ r. ⌜ r ≡ addressIn self ⌝ }
     {
         let bytes = self.bytes;
@@ -92,7 +92,7 @@ impl Line {
     }
 
     // The command that the line asks for, whatever its address.
-    pub fn command(self) -> Command
+    pub fn command_in(self) -> Command
         ensures { λ r. ⌜ r ≡ commandIn self ⌝ }
     {
         if self.overlong {
@@ -116,7 +116,7 @@ fn held(len: u8) -> usize
 
 // Whether a line can hold every character of `s`.
 fn all_stand(s: &[u8]) -> bool
-    ensures { λ r. ⌜ r ≡ allStanding (now (s .entry)) ⌝ }
+    ensures { λ r. ⌜ r ≡ allStand (now (s .entry)) ⌝ }
 {
     let mut i = 0;
     while i < s.len() {

@@ -11,7 +11,7 @@ use borrow.Author.Tests.{leb-false, le-leb, eqb-true, eqb-false, eq-eqb, ne-eqb}
 use Rattle.base.specs.If.{if_then_else_}
 use Rattle.base.proofs.Choices.{and-left, and-right, false-true}
 use Rattle.base.proofs.Each.{and-both}
-use Rattle.loops.specs.Loops.{opened, holding, before, lps, newest, older, lop, lpe, Turning}
+use Rattle.loops.specs.Loops.{opened, inSlots, before, lps, newest, older, lop, lpe, Turning}
 use Rattle.loops.specs.Loops.{isSoundLoop, allSound, noneBegunBy, allDiffer, isSoundLoops}
 use Rattle.loops.specs.declared.Loop.{Loop}
 use Rattle.loops.specs.declared.Loops.{Loops}
@@ -20,7 +20,7 @@ use Rattle.loops.specs.declared.Turn.{Turn}
 use Rattle.loops.proofs.Places.{opened-holding}
 use Rattle.loops.proofs.Soundness.{SoundList, Bounded, bounded, bounded-sound, sound-list}
 
-pub holding-sound : (phases : ℕ) (ls : List Loop) → SoundList phases ls → isSoundLoops phases (holding ls) ≡ true
+pub holding-sound : (phases : ℕ) (ls : List Loop) → SoundList phases ls → isSoundLoops phases (inSlots ls) ≡ true
 unfolding isSoundLoops
 holding-sound phases ls s =
     rw (opened-holding ls (s .few))
@@ -73,7 +73,7 @@ pub snoc-sound :
     → allDiffer ls ≡ true
     → isSoundLoop phases x ≡ true
     → noneBegunBy (x .begun) ls ≡ true
-    → isSoundLoops phases (holding (ls ++ x ∷ [])) ≡ true
+    → isSoundLoops phases (inSlots (ls ++ x ∷ [])) ≡ true
 snoc-sound phases ls x h s d b o =
     holding-sound phases (ls ++ x ∷ [])
     (record {
@@ -139,12 +139,12 @@ lps-sound phases phase l h k = go (leb 3 (length (before phase (opened l)))) ref
         → leb 3 (length (before phase (opened l))) ≡ t
         → if_then_else_ {A = Began} t
         (record { loops = l; full = true })
-        (record { loops = holding (before phase (opened l) ++ begun ∷ []); full = false }) .full
+        (record { loops = inSlots (before phase (opened l) ++ begun ∷ []); full = false }) .full
         ≡ false
         → isSoundLoops phases
         (if_then_else_ {A = Began} t
         (record { loops = l; full = true })
-        (record { loops = holding (before phase (opened l) ++ begun ∷ []); full = false }) .loops)
+        (record { loops = inSlots (before phase (opened l) ++ begun ∷ []); full = false }) .loops)
         ≡ true
     go true e f = false-true (sym f)
     go false e f =
@@ -202,7 +202,7 @@ again-sound :
     (phases passes : ℕ) (l : Loops)
     → isSoundLoops phases l ≡ true
     → passes ≤ 98
-    → isSoundLoops phases (holding (older (opened l) ++ record { begun = newest (opened l) .begun; passes = passes } ∷ [])) ≡ true
+    → isSoundLoops phases (inSlots (older (opened l) ++ record { begun = newest (opened l) .begun; passes = passes } ∷ [])) ≡ true
 again-sound phases passes l h k =
     let s = split-open phases l h in
     let again : Loop = record { begun = newest (opened l) .begun; passes = passes } in
@@ -216,12 +216,12 @@ lpe-sound phases l h = again-sound phases (newest (opened l) .passes) l h (newes
 -- what holds of LOP's two ways out
 module _ (l : Loops) (n current : ℕ) where
   abbrev closing : Turn
-  closing = record { loops = holding (older (opened l)); next = current + 1 }
+  closing = record { loops = inSlots (older (opened l)); next = current + 1 }
 
   abbrev returning : Turn
   returning =
       record {
-        loops = holding (older (opened l) ++ record { begun = newest (opened l) .begun; passes = newest (opened l) .passes + 1 } ∷ []);
+        loops = inSlots (older (opened l) ++ record { begun = newest (opened l) .begun; passes = newest (opened l) .passes + 1 } ∷ []);
         next = newest (opened l) .begun + 1;
       }
 
@@ -266,4 +266,4 @@ unfolding lpe
 lpe-next-le phases l h = omega (arith, newest-bounded phases l h .begun-most)
 
 pub turning : (phases current : ℕ) (l : Loops) → phases ≤ 99 → isSoundLoops phases l ≡ true → current ≤ 100 → Turning l current
-turning phases current l p h k = record { begun = omega (arith, newest-bounded phases l h .begun-most); here = k }
+turning phases current l p h k = record { begun = omega (arith, newest-bounded phases l h .begun-most); current-few = k }

@@ -11,7 +11,7 @@ use lib.Seq.{take-take, take-append-seam}
 use borrow.Author.Tests.{lt-ltb, le-ltb, lt-leb}
 use Rattle.base.specs.All.{all}
 use Rattle.base.specs.If.{if_then_else_}
-use Rattle.loops.specs.Loops.{noLoop, none, opened, holding, before, newest, older, isSoundLoop, allSound, noneBegunBy, allDiffer}
+use Rattle.loops.specs.Loops.{noLoop, none, opened, inSlots, before, newest, older, isSoundLoop, allSound, noneBegunBy, allDiffer}
 use Rattle.loops.specs.declared.Loop.{Loop}
 use Rattle.loops.specs.declared.Loops.{Loops}
 
@@ -19,7 +19,7 @@ use Rattle.loops.specs.declared.Loops.{Loops}
 pub opened-none : opened none ≡ []
 opened-none = refl
 
-pub opened-holding : (ls : List Loop) → length ls ≤ 3 → opened (holding ls) ≡ ls
+pub opened-holding : (ls : List Loop) → length ls ≤ 3 → opened (inSlots ls) ≡ ls
 opened-holding ls h =
     take-take (length ls) 3 (ls ++ replicate 3 noLoop) h ∙ take-append-seam ls (replicate 3 noLoop)
 
@@ -147,10 +147,10 @@ closed keep ls =
       count = keep;
     }
 
-pub closed-holds : (keep : ℕ) (ls : List Loop) → length ls ≡ 3 → keep < 3 → closed keep ls ≡ holding (take keep ls)
-closed-holds keep = by-three (λ ls. keep < 3 → closed keep ls ≡ holding (take keep ls)) (go keep)
+pub closed-holds : (keep : ℕ) (ls : List Loop) → length ls ≡ 3 → keep < 3 → closed keep ls ≡ inSlots (take keep ls)
+closed-holds keep = by-three (λ ls. keep < 3 → closed keep ls ≡ inSlots (take keep ls)) (go keep)
   where
-    go : (keep : ℕ) (x y z : Loop) → keep < 3 → closed keep (x ∷ y ∷ z ∷ []) ≡ holding (take keep (x ∷ y ∷ z ∷ []))
+    go : (keep : ℕ) (x y z : Loop) → keep < 3 → closed keep (x ∷ y ∷ z ∷ []) ≡ inSlots (take keep (x ∷ y ∷ z ∷ []))
     go zero x y z h = refl
     go (suc zero) x y z h = refl
     go (suc (suc zero)) x y z h = refl
@@ -171,13 +171,13 @@ pub behind-holds :
     (keep : ℕ) (new : Loop) (ls : List Loop)
     → length ls ≡ 3
     → keep < 3
-    → behind keep new ls ≡ holding (take keep ls ++ new ∷ [])
-behind-holds keep new = by-three (λ ls. keep < 3 → behind keep new ls ≡ holding (take keep ls ++ new ∷ [])) (go keep)
+    → behind keep new ls ≡ inSlots (take keep ls ++ new ∷ [])
+behind-holds keep new = by-three (λ ls. keep < 3 → behind keep new ls ≡ inSlots (take keep ls ++ new ∷ [])) (go keep)
   where
     go :
         (keep : ℕ) (x y z : Loop)
         → keep < 3
-        → behind keep new (x ∷ y ∷ z ∷ []) ≡ holding (take keep (x ∷ y ∷ z ∷ []) ++ new ∷ [])
+        → behind keep new (x ∷ y ∷ z ∷ []) ≡ inSlots (take keep (x ∷ y ∷ z ∷ []) ++ new ∷ [])
     go zero x y z h = refl
     go (suc zero) x y z h = refl
     go (suc (suc zero)) x y z h = refl

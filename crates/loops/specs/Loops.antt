@@ -20,11 +20,11 @@ abbrev pub opened : Loops → List Loop
 opened l = take (l .count) (l .slots)
 
 -- the places that hold a list of at most three open loops
-abbrev pub holding : List Loop → Loops
-holding ls = record { slots = take 3 (ls ++ replicate 3 noLoop); count = length ls }
+abbrev pub inSlots : List Loop → Loops
+inSlots ls = record { slots = take 3 (ls ++ replicate 3 noLoop); count = length ls }
 
 abbrev pub none : Loops
-none = holding []
+none = inSlots []
 
 -- ---- LPS
 -- the loops opened before the one that this phase opened; all of them, if it opened none
@@ -37,7 +37,7 @@ unfoldable pub lps : Loops → ℕ → Began
 lps l phase =
     if leb 3 (length (before phase (opened l)))
     then record { loops = l; full = true }
-    else record { loops = holding (before phase (opened l) ++ record { begun = phase; passes = 0 } ∷ []); full = false }
+    else record { loops = inSlots (before phase (opened l) ++ record { begun = phase; passes = 0 } ∷ []); full = false }
 
 -- ---- LOP and LPE
 -- the newest loop, or if none is open, one counted as begun by phase 0
@@ -56,21 +56,21 @@ older (x ∷ y ∷ ls) = x ∷ older (y ∷ ls)
 unfoldable pub lop : Loops → ℕ → ℕ → Turn
 lop l n current =
     if leb n (newest (opened l) .passes + 1)
-    then record { loops = holding (older (opened l)); next = current + 1 }
+    then record { loops = inSlots (older (opened l)); next = current + 1 }
     else
     record {
-      loops = holding (older (opened l) ++ record { begun = newest (opened l) .begun; passes = newest (opened l) .passes + 1 } ∷ []);
+      loops = inSlots (older (opened l) ++ record { begun = newest (opened l) .begun; passes = newest (opened l) .passes + 1 } ∷ []);
       next = newest (opened l) .begun + 1;
     }
 
 -- takes its loop the same way, counts no pass and returns always
 unfoldable pub lpe : Loops → Turn
-lpe l = record { loops = holding (older (opened l) ++ newest (opened l) ∷ []); next = newest (opened l) .begun + 1 }
+lpe l = record { loops = inSlots (older (opened l) ++ newest (opened l) ∷ []); next = newest (opened l) .begun + 1 }
 
 -- what LOP and LPE may rely on: no number that they raise by one is at the end of its range
 pub record Turning (l : Loops) (current : ℕ) : Type 0 where
   pub begun : newest (opened l) .begun ≤ 99
-  pub here : current ≤ 100
+  pub current-few : current ≤ 100
 
 -- ---- open loops are at most three, each begun by phase 0 or a phase and with at most 98 passes, and begun by different phases
 abbrev pub isSoundLoop : ℕ → Loop → Bool

@@ -5,7 +5,7 @@ ghost use mathlib.Core.List.{[], _∷_, _++_};
 ghost use Prim.Native.Nat.{_<_};
 ghost use lib.ListN.{length, take};
 ghost use Rattle.base.specs.If.{if_then_else_};
-ghost use Rattle.loops.specs.Loops.{none, lps, Turning, lop, lpe, isSoundLoops, opened, holding, before, newest, older};
+ghost use Rattle.loops.specs.Loops.{none, lps, Turning, lop, lpe, isSoundLoops, opened, inSlots, before, newest, older};
 
 pub struct Loop {
     pub begun: u8,
@@ -174,7 +174,7 @@ impl Loops {
     // The first `keep` loops alone.
     fn closed_to(self, keep: u8) -> Loops
         requires { ⌜ keep < 3 ⌝ }
-        ensures { λ r. ⌜ r ≡ holding (take keep (self .slots)) ⌝ }
+        ensures { λ r. ⌜ r ≡ inSlots (take keep (self .slots)) ⌝ }
     {
         let none = NO_LOOP;
         let a = self.slots[0];
@@ -188,7 +188,7 @@ impl Loops {
     // The first `keep` loops and `newest` behind them.
     fn opened_at(self, keep: u8, newest: Loop) -> Loops
         requires { ⌜ keep < 3 ⌝ }
-        ensures { λ r. ⌜ r ≡ holding (take keep (self .slots) ++ newest ∷ []) ⌝ }
+        ensures { λ r. ⌜ r ≡ inSlots (take keep (self .slots) ++ newest ∷ []) ⌝ }
     {
         let none = NO_LOOP;
         let a = self.slots[0];

@@ -6,7 +6,7 @@ use mathlib.Core.Bool.{Bool, true, false}
 use native.Mathlib.Omega.{arith}
 use Rattle.words.specs.declared.phases.Phase.{Phase}
 use Rattle.program.specs.declared.state.Core.{Core}
-use Rattle.tick.specs.Ticks.{Ready, tickOf}
+use Rattle.tick.specs.Ticks.{Ready, tick}
 use Rattle.tick.specs.declared.Moved.{Moved}
 use Rattle.soundness.proofs.Cores as cores
 use Rattle.soundness.proofs.Ticks.{kept-tick}
@@ -17,7 +17,7 @@ use Rattle.pump.specs.declared.holder.Pump.{Pump}
 use Rattle.pump.specs.declared.reports.Refusal.the-variants.{Accepted, Unsound}
 use Rattle.pump.specs.declared.reports.Report.{Report}
 use Rattle.pump.proofs.Kept.{withPumpCore, pump-core, table-here, core-sound, sound-tick}
-use Rattle.many.specs.Ticking.{withTick, ticked}
+use Rattle.many.specs.Ticking.{withTick, ticks}
 use Rattle.many.specs.declared.Ticked.{Ticked}
 
 -- a tick leaves a sound pump sound
@@ -29,12 +29,12 @@ tick-whole p h e =
 -- i ticks from p gave this core and these sums; a tick gives at most 255 steps in a direction
 pub record Ran (p : Pump) (core : Core) (infused withdrawn i : ℕ) : Type 0 where
   pub sound : isSoundPump (withPumpCore p core) ≡ true
-  pub same : _≡_ {A = Ticked} (record { pump = withPumpCore p core; infused = infused; withdrawn = withdrawn; sound = true }) (ticked i p)
+  pub same : _≡_ {A = Ticked} (record { pump = withPumpCore p core; infused = infused; withdrawn = withdrawn; sound = true }) (ticks i p)
   pub infused-few : infused ≤ i * 255
   pub withdrawn-few : withdrawn ≤ i * 255
 
 pub ran-none : (p : Pump) → isSoundPump p ≡ true → Ran p (p .device .core) 0 0 0
-unfolding ticked
+unfolding ticks
 ran-none p sound =
     record {
       sound = sound;
@@ -50,29 +50,29 @@ module _ (p : Pump) (few : phaseCount p ≤ 99) (core : Core) (a b i : ℕ)
       let q = withPumpCore p core in
       rw h (cores.ready (phaseCount q) (phaseAt (q .phases)) core (pump-core q (ran .sound)) (table-here q few (ran .sound)))
 
-  called : (m : Moved) → m ≡ tickOf core here → tickCall (withPumpCore p core) ≡ movedBy (withPumpCore p core) m Accepted
+  called : (m : Moved) → m ≡ tick core here → tickCall (withPumpCore p core) ≡ movedBy (withPumpCore p core) m Accepted
   called m k =
       sound-tick (withPumpCore p core) (ran .sound)
-      ∙ ap (λ (x : Moved). movedBy (withPumpCore p core) x Accepted) (sym (k ∙ ap (tickOf core) h))
+      ∙ ap (λ (x : Moved). movedBy (withPumpCore p core) x Accepted) (sym (k ∙ ap (tick core) h))
 
   counted :
       (m : Moved)
-      → m ≡ tickOf core here
+      → m ≡ tick core here
       → _≡_ {A = Ticked}
       (record { pump = withPumpCore p (m .core); infused = a + m .infused; withdrawn = b + m .withdrawn; sound = true })
-      (ticked (i + 1) p)
-  unfolding ticked
+      (ticks (i + 1) p)
+  unfolding ticks
   counted m k =
       ap (withTick (record { pump = withPumpCore p core; infused = a; withdrawn = b; sound = true })) (sym (called m k))
       ∙ ap (λ (t : Ticked). withTick t (tickCall (t .pump))) (ran .same)
-      ∙ ap (λ (n : ℕ). ticked n p) (one-more i)
+      ∙ ap (λ (n : ℕ). ticks n p) (one-more i)
     where
       one-more : (n : ℕ) → suc n ≡ n + 1
       one-more n = omega arith
 
   pub ran-more :
       (m : Moved)
-      → m ≡ tickOf core here
+      → m ≡ tick core here
       → m .infused ≤ 255
       → m .withdrawn ≤ 255
       → Ran p (m .core) (a + m .infused) (b + m .withdrawn) (i + 1)
@@ -91,8 +91,8 @@ pub ran-all :
     → Ran p core a b i
     → i ≤ n
     → n ≤ i
-    → _≡_ {A = Ticked} (record { pump = withPumpCore p core; infused = a; withdrawn = b; sound = true }) (ticked n p)
-ran-all p core a b i n ran h k = let e : i ≡ n = omega arith in ran .same ∙ ap (λ (m : ℕ). ticked m p) e
+    → _≡_ {A = Ticked} (record { pump = withPumpCore p core; infused = a; withdrawn = b; sound = true }) (ticks n p)
+ran-all p core a b i n ran h k = let e : i ≡ n = omega arith in ran .same ∙ ap (λ (m : ℕ). ticks m p) e
 
 -- ---- a state that is not sound: every tick is refused
 still-tick : (p : Pump) → isSoundPump p ≡ false → tickCall p ≡ refused p Unsound
@@ -102,8 +102,8 @@ still-tick p e = rw e refl
 pub ran-still :
     (p : Pump) (n : ℕ)
     → isSoundPump p ≡ false
-    → _≡_ {A = Ticked} (record { pump = p; infused = 0; withdrawn = 0; sound = false }) (ticked n p)
-unfolding ticked
+    → _≡_ {A = Ticked} (record { pump = p; infused = 0; withdrawn = 0; sound = false }) (ticks n p)
+unfolding ticks
 ran-still p zero e = ap (λ (t : Bool). record { pump = p; infused = 0; withdrawn = 0; sound = t }) (sym e)
 ran-still p (suc n) e =
     ap (withTick (record { pump = p; infused = 0; withdrawn = 0; sound = false })) (sym (still-tick p e))

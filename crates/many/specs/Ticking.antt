@@ -11,6 +11,6 @@ abbrev pub withTick : Ticked → Report → Ticked
 withTick t r = record { pump = r .pump; infused = t .infused + r .infused; withdrawn = t .withdrawn + r .withdrawn; sound = t .sound }
 
 -- whether they were taken is told beside: each is refused with 4 where the state is not sound
-unfoldable pub ticked : ℕ → Pump → Ticked
-ticked zero p = record { pump = p; infused = 0; withdrawn = 0; sound = isSoundPump p }
-ticked (suc n) p = withTick (ticked n p) (tickCall (ticked n p .pump))
+unfoldable pub ticks : ℕ → Pump → Ticked
+ticks zero p = record { pump = p; infused = 0; withdrawn = 0; sound = isSoundPump p }
+ticks (suc n) p = withTick (ticks n p) (tickCall (ticks n p .pump))

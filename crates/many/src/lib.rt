@@ -3,7 +3,7 @@
 ghost use mathlib.Core.Path.{_≡_};
 ghost use mathlib.Core.Bool.{true};
 ghost use Rattle.pump.specs.Holder.{isSoundPump};
-ghost use Rattle.many.specs.Ticking.{ticked};
+ghost use Rattle.many.specs.Ticking.{ticks};
 use pump::Pump;
 
 // The pump after so many ticks, the steps that they gave, and whether the state was sound, so that they were taken.
@@ -16,7 +16,7 @@ pub struct Ticked {
 
 // A state that is not sound stays as it is: each of the ticks would be refused.
 pub fn ticks(pump: Pump, n: u32) -> Ticked
-    ensures { λ r. ⌜ r ≡ ticked n pump ⌝ }
+    ensures { λ r. ⌜ r ≡ ticks n pump ⌝ }
 {
     if pump.is_sound() {
         return run(pump, n);
@@ -32,7 +32,7 @@ pub fn ticks(pump: Pump, n: u32) -> Ticked
 // A tick gives at most 255 steps in a direction, and n is below 2^32, so that a sum is below 2^64.
 fn run(pump: Pump, n: u32) -> Ticked
     requires { ⌜ isSoundPump pump ≡ true ⌝ }
-    ensures { λ r. ⌜ r ≡ ticked n pump ⌝ }
+    ensures { λ r. ⌜ r ≡ ticks n pump ⌝ }
 {
     let device = pump.device;
     let mut core = device.core;

@@ -11,7 +11,7 @@ use Rattle.words.specs.declared.answers.Status.{Status}
 use Rattle.program.specs.Control.{accept, runBy, runOn, stopBy, stopNow}
 use Rattle.program.specs.Runs.{withMode, isRunning, calm, clearAlarm}
 use Rattle.program.specs.Sound.{isSoundMode}
-use Rattle.program.specs.Statuses.{statusBy, statusByWork, statusOf}
+use Rattle.program.specs.Statuses.{statusBy, statusByWork, statusRun}
 use Rattle.program.specs.declared.control.Steered.{Steered}
 use Rattle.program.specs.declared.state.Mode.{Mode}
 use Rattle.program.specs.declared.state.Mode.the-variants.{Stopped, Paused, Running}
@@ -33,8 +33,8 @@ module _ (r : Run) (m : Mode) (e : r .mode ≡ m) where
     unfolding stopNow
     stops-by q = q ∙ ap (stopBy r) (sym e)
 
-  pub status-by : (way : Direction) (x : Status) → x ≡ statusBy way (r .place .work) m → x ≡ statusOf r way
-  unfolding statusOf
+  pub status-by : (way : Direction) (x : Status) → x ≡ statusBy way (r .place .work) m → x ≡ statusRun r way
+  unfolding statusRun
   status-by way x q = q ∙ ap (statusBy way (r .place .work)) (sym e)
 
   pub calms : (x : Run) → x ≡ withMode r (calm m) → x ≡ clearAlarm r
@@ -48,7 +48,7 @@ pub status-on :
     → r .mode ≡ Running
     → r .place .work ≡ w
     → x ≡ statusByWork way w
-    → x ≡ statusOf r way
+    → x ≡ statusRun r way
 status-on r way x w e k q = status-by r Running e way x (q ∙ ap (statusByWork way) (sym k))
 
 pub running : (m : Mode) → isRunning m ≡ true → m ≡ Running

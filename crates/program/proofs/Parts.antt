@@ -10,9 +10,9 @@ use borrow.Author.Tests.{leb-true, le-leb, ltb-true, lt-ltb, eqb-true, eq-eqb}
 use Rattle.base.specs.All.{all}
 use Rattle.base.proofs.Choices.{and-left, and-right, false-true}
 use Rattle.base.proofs.Each.{each, all-of, and-both, either}
-use Rattle.decimal.specs.Writable.{writable}
+use Rattle.decimal.specs.Writable.{isWritable}
 use Rattle.drive.specs.Rates.{mostRate}
-use Rattle.drive.specs.Syringe.{diameter, threshold, target}
+use Rattle.drive.specs.Syringe.{isDiameter, stepThreshold, stepTarget}
 use Rattle.drive.specs.declared.directions.Direction.{Direction}
 use Rattle.drive.specs.declared.directions.Direction.the-variants.{Infuse, Withdraw}
 use Rattle.drive.specs.declared.syringe.Syringe.{Syringe}
@@ -38,26 +38,26 @@ use Rattle.program.specs.declared.state.Work.the-variants.{Entering, Vis
 
 -- ---- a phase
 pub record PhaseClauses (phases : ℕ) (p : Phase) : Type 0 where
-  pub rate-written : writable (p .rate) ≡ true
-  pub volume-written : writable (p .volume) ≡ true
+  pub rate-written : isWritable (p .rate) ≡ true
+  pub volume-written : isWritable (p .volume) ≡ true
   pub datum-fits : fits phases (p .function) ≡ true
 
 module _ (phases : ℕ) (p : Phase) where
   pub phase-clauses : isSoundPhase phases p ≡ true → PhaseClauses phases p
   unfolding isSoundPhase
   phase-clauses e =
-      let numbers = and-left (writable (p .rate) && writable (p .volume)) (fits phases (p .function)) e in
+      let numbers = and-left (isWritable (p .rate) && isWritable (p .volume)) (fits phases (p .function)) e in
       record {
-        rate-written = and-left (writable (p .rate)) (writable (p .volume)) numbers;
-        volume-written = and-right (writable (p .rate)) (writable (p .volume)) numbers;
-        datum-fits = and-right (writable (p .rate) && writable (p .volume)) (fits phases (p .function)) e;
+        rate-written = and-left (isWritable (p .rate)) (isWritable (p .volume)) numbers;
+        volume-written = and-right (isWritable (p .rate)) (isWritable (p .volume)) numbers;
+        datum-fits = and-right (isWritable (p .rate) && isWritable (p .volume)) (fits phases (p .function)) e;
       }
 
   pub phase-sound : PhaseClauses phases p → isSoundPhase phases p ≡ true
   unfolding isSoundPhase
   phase-sound c =
-      and-both (writable (p .rate) && writable (p .volume)) _
-      (and-both (writable (p .rate)) _ (c .rate-written) (c .volume-written)) (c .datum-fits)
+      and-both (isWritable (p .rate) && isWritable (p .volume)) _
+      (and-both (isWritable (p .rate)) _ (c .rate-written) (c .volume-written)) (c .datum-fits)
 
 -- ---- a ledger: the total of either direction
 pub ledger-clauses : (l : Ledger) → isSoundLedger l ≡ true → (way : Direction) → totalOf l way ≤ mostTotal
@@ -71,8 +71,8 @@ ledger-sound l i w = and-both _ _ (le-leb _ _ i) (le-leb _ _ w)
 
 -- ---- a visit: a continuous one has no target and counts no step
 pub record VisitClauses (d : Syringe) (here : Phase) (rate : Rate) (v : Visit) : Type 0 where
-  pub store-below : v .store < threshold d
-  pub aimed : v .target ≡ target d (here .volume)
+  pub store-below : v .store < stepThreshold d
+  pub aimed : v .target ≡ stepTarget d (here .volume)
   pub fewer-given : (v .given < v .target) ⊎ (here .volume ≡ 0) × (v .given ≡ 0)
   pub rate-usable : isUsableRate d rate ≡ true
   pub in-rate-phase : isRatePhase (here .function) ≡ true
@@ -186,8 +186,8 @@ module _ (phases : ℕ) (r : Run) where
 
 -- ---- the core, with the current phase in hand
 pub record CoreClauses (phases : ℕ) (s : Core) (here : Phase) : Type 0 where
-  pub in-range : diameter (s .syringe .diameter) ≡ true
-  pub written : writable (s .syringe .diameter) ≡ true
+  pub in-range : isDiameter (s .syringe .diameter) ≡ true
+  pub written : isWritable (s .syringe .diameter) ≡ true
   pub chosen-least : 1 ≤ s .chosen
   pub chosen-most : s .chosen ≤ phases
   pub ledger-sound : isSoundLedger (s .ledger) ≡ true

@@ -10,7 +10,6 @@ use Rattle.program.specs.declared.state.Mode.{Mode}
 use Rattle.program.specs.declared.state.Mode.the-variants.{Stopped, Paused, Running}
 use Rattle.program.specs.declared.state.Pending.{Pending}
 use Rattle.program.specs.declared.state.Pending.the-variants.{NoAlarm, Raised}
-use Rattle.program.specs.declared.state.Pins.{Pins}
 use Rattle.program.specs.declared.state.Run.{Run}
 use Rattle.program.specs.declared.state.Trap.{Trap}
 use Rattle.program.specs.declared.state.Trap.the-variants.{NoTrap, Armed}

@@ -7,9 +7,9 @@ use mathlib.Core.Bool.{Bool, true, false, _&&_, _||_}
 use mathlib.Core.List.{List, [], _∷_}
 use lib.Dec.{ltb, leb, eqb}
 use Rattle.base.specs.All.{all}
-use Rattle.decimal.specs.Writable.{writable}
+use Rattle.decimal.specs.Writable.{isWritable}
 use Rattle.drive.specs.Rates.{mostRate}
-use Rattle.drive.specs.Syringe.{diameter, threshold, target}
+use Rattle.drive.specs.Syringe.{isDiameter, stepThreshold, stepTarget}
 use Rattle.drive.specs.declared.syringe.Syringe.{Syringe}
 use Rattle.words.specs.Functions.{isPhase, isRatePhase, pauseTicks, isWait}
 use Rattle.words.specs.Phases.{isSoundPhase}
@@ -40,8 +40,8 @@ isSoundTrap phases (Armed n) = isPhase phases n
 -- visit has no target and counts none), a usable rate, in a RAT, INC or DEC phase
 abbrev pub visitTests : Syringe → Phase → Rate → Visit → List Bool
 visitTests y p rate v =
-    ltb (v .store) (threshold y)
-    ∷ eqb (v .target) (target y (p .volume))
+    ltb (v .store) (stepThreshold y)
+    ∷ eqb (v .target) (stepTarget y (p .volume))
     ∷ (ltb (v .given) (v .target) || eqb (p .volume) 0 && eqb (v .given) 0)
     ∷ isUsableRate y rate
     ∷ isRatePhase (p .function)
@@ -87,8 +87,8 @@ isSoundRun phases r = all (runTests phases r)
 -- ---- the whole
 abbrev pub coreTests : ℕ → Core → Phase → List Bool
 coreTests phases s here =
-    diameter (s .syringe .diameter)
-    ∷ writable (s .syringe .diameter)
+    isDiameter (s .syringe .diameter)
+    ∷ isWritable (s .syringe .diameter)
     ∷ leb 1 (s .chosen)
     ∷ leb (s .chosen) phases
     ∷ isSoundLedger (s .ledger)

@@ -29,8 +29,8 @@ statusBy way work Paused = status.Paused
 statusBy way work Running = statusByWork way work
 
 -- S stopped, P paused, T timed pause, U trigger wait, else I or W by the direction of the current phase, entered or not
-unfoldable pub statusOf : Run → Direction → Status
-statusOf r way = statusBy way (r .place .work) (r .mode)
+unfoldable pub statusRun : Run → Direction → Status
+statusRun r way = statusBy way (r .place .work) (r .mode)
 
 -- the number of the phase that a command concerns: the running one while operating, else the one chosen by PHN
 abbrev pub inHand : Core → ℕ

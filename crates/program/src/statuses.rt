@@ -1,6 +1,6 @@
 // The status, and the phase that a command concerns.
 ghost use mathlib.Core.Path.{_≡_};
-ghost use Rattle.program.specs.Statuses.{pumping, statusOf, inHand};
+ghost use Rattle.program.specs.Statuses.{pumping, statusRun, inHand};
 use crate::state::Core;
 use crate::state::Mode;
 use crate::state::Run;
@@ -11,7 +11,7 @@ use words::Status;
 impl Run {
     // An entered pause shows itself, any other phase the direction of the current one.
     pub fn status(self, direction: Direction) -> Status
-        ensures { λ r. ⌜ r ≡ statusOf self direction ⌝ }
+        ensures { λ r. ⌜ r ≡ statusRun self direction ⌝ }
     {
         let place = self.place;
         let mode = self.mode;

@@ -15,9 +15,8 @@ use Rattle.words.specs.declared.answers.Said.the-variants as s
 use Rattle.words.specs.declared.phases.Phase.{Phase}
 use Rattle.program.specs.Runs.{isOperating}
 use Rattle.program.specs.Statuses.{inHand}
-use Rattle.program.specs.declared.state.Core.{Core}
 use Rattle.program.proofs.Parts.{core-clauses, run-clauses}
-use Rattle.tick.specs.Ticks.{Ready, tickOf, silent}
+use Rattle.tick.specs.Ticks.{Ready, tick, silent}
 use Rattle.tick.specs.declared.Moved.{Moved}
 use Rattle.line.specs.Lines.{afterByte}
 use Rattle.line.specs.declared.lines.Arrived.{Arrived}
@@ -67,7 +66,7 @@ few-in-hand p n h e = rw e (hand-few p h (isOperating (p .device .core .run)) re
 tick-by :
     (p : Pump) (sound : Bool)
     → sound ≡ isSoundPump p
-    → movedBy p (if sound then tickOf (p .device .core) (hereOf p) else silent (p .device .core)) (unless sound) ≡ tickCall p
+    → movedBy p (if sound then tick (p .device .core) (hereOf p) else silent (p .device .core)) (unless sound) ≡ tickCall p
 unfolding tickCall
 tick-by p true s = sym (simp (sym s))
 tick-by p false s = sym (simp (sym s))
@@ -78,7 +77,7 @@ module _ (p : Pump) (k : Checked) (c : k ≡ checked p) where
 
   pub tick-checked :
       (m : Moved) (refusal : Refusal) (r : Report)
-      → m ≡ (if k .sound then tickOf (p .device .core) (k .here) else silent (p .device .core))
+      → m ≡ (if k .sound then tick (p .device .core) (k .here) else silent (p .device .core))
       → refusal ≡ unless (k .sound)
       → r ≡ movedBy p m refusal
       → r ≡ tickCall p

@@ -16,7 +16,6 @@ use Rattle.words.specs.declared.phases.Phase.{Phase}
 use Rattle.program.specs.Cores.{withRun}
 use Rattle.program.specs.Edges.{pinTwo, pinFour, pinSix}
 use Rattle.program.specs.Runs.{pending, clearAlarm}
-use Rattle.program.specs.Statuses.{statusOf}
 use Rattle.program.specs.declared.state.Core.{Core}
 use Rattle.program.specs.declared.state.Pending.{Pending}
 use Rattle.program.specs.declared.state.Pending.the-variants.{NoAlarm, Raised}

@@ -10,7 +10,6 @@ use Rattle.words.specs.Phases.{powerUp}
 use Rattle.words.specs.declared.phases.Phase.{Phase}
 use Rattle.tick.specs.declared.Moved.{Moved}
 use Rattle.command.specs.declared.obeying.Edit.{Edit}
-use Rattle.command.specs.declared.obeying.Edit.the-variants.{Renew}
 use Rattle.pump.specs.Device.{powerUpDevice, isSoundDevice, withCore}
 use Rattle.pump.specs.Holder as holder
 use Rattle.pump.specs.Holder.{phaseCount, hereOf, withDevice, freshPump, edited, isSoundPhases, isSoundPump}

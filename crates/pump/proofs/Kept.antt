@@ -1,14 +1,14 @@
 -- A sound pump taken apart into its phases, its core and its line, and put together again; its phases as a table; whatever their number.
 -- Assumes nothing.
 use Prim.Native.Nat.{ℕ, zero, suc, _+_, _≤_}
-use mathlib.Core.Path.{_≡_, refl, ap, _∙_}
-use mathlib.Core.Bool.{Bool, true, _&&_}
+use mathlib.Core.Path.{_≡_, refl, ap}
+use mathlib.Core.Bool.{Bool, true}
 use mathlib.Core.List.{List, [], _∷_}
 use native.Mathlib.Omega.{arith}
 use lib.ListN.{length, getD, List·getD-eq-default}
 use Rattle.base.proofs.Choices.{and-left, and-right}
 use Rattle.base.proofs.Each.{and-both}
-use Rattle.decimal.specs.Writable.{writable}
+use Rattle.decimal.specs.Writable.{isWritable}
 use Rattle.words.specs.Phases.{isSoundPhase}
 use Rattle.words.specs.declared.phases.Phase.{Phase}
 use Rattle.program.specs.Sound.{Table, isSoundCore}
@@ -49,7 +49,7 @@ module _ (p : Pump) where
 -- ---- every phase is sound
 module _ (phases : ℕ) where
   stop-sound : isSoundPhase phases stopPhase ≡ true
-  unfolding isSoundPhase writable
+  unfolding isSoundPhase isWritable
   stop-sound = refl
 
   sound-get : (ps : List Phase) (i : ℕ) → isSoundPhases phases ps ≡ true → isSoundPhase phases (getD ps i stopPhase) ≡ true

@@ -7,7 +7,7 @@ use lib.ListN.{length}
 use Rattle.base.specs.If.{if_then_else_}
 use Rattle.words.specs.declared.answers.Said.the-variants as said
 use Rattle.program.specs.Statuses.{inHand}
-use Rattle.tick.specs.Ticks.{tickOf}
+use Rattle.tick.specs.Ticks.{tick}
 use Rattle.line.specs.Lines.{afterByte}
 use Rattle.line.specs.declared.lines.Arrived.{Arrived}
 use Rattle.answer.specs.Answers.{room, lengthIn, bufferAfter}
@@ -28,7 +28,7 @@ pub record Handy (p : Pump) : Type 0 where
 
 -- ---- a tick: 4 where the state is not sound
 abbrev pub ticked : Pump → Report
-ticked p = movedBy p (tickOf (p .device .core) (hereOf p)) Accepted
+ticked p = movedBy p (tick (p .device .core) (hereOf p)) Accepted
 
 unfoldable pub tickCall : Pump → Report
 tickCall p = if isSoundPump p then ticked p else refused p Unsound

@@ -13,7 +13,7 @@ use Rattle.program.specs.Cores.{powerUpCore, withRun}
 use Rattle.program.specs.Edges.{pinTwo, pinFour, pinSix}
 use Rattle.program.specs.Runs.{pending, clearAlarm}
 use Rattle.program.specs.Sound.{isSoundCore}
-use Rattle.program.specs.Statuses.{statusOf}
+use Rattle.program.specs.Statuses.{statusRun}
 use Rattle.program.specs.declared.state.Core.{Core}
 use Rattle.program.specs.declared.state.Pending.{Pending}
 use Rattle.program.specs.declared.state.Pending.the-variants.{NoAlarm, Raised}
@@ -76,4 +76,4 @@ hearLine v hand next phases =
 abbrev pub said : Device → Told → Direction → Said
 said v told.Nothing way = s.Nothing
 said v (told.Alarm a) way = s.Alarm a
-said v (told.Reply r) way = s.Answer (statusOf (v .core .run) way) r
+said v (told.Reply r) way = s.Answer (statusRun (v .core .run) way) r

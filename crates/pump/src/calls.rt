@@ -81,7 +81,7 @@ impl Pump {
         requires { ⌜ Handy self ⌝ }
         ensures { λ r. ⌜ r ≡ hear self b ⌝ }
     {
-        let arrived = self.device.line.after(b);
+        let arrived = self.device.line.after_byte(b);
         self.device = self.device.with_line(arrived.line);
         if arrived.ended {
             return self.after_line();

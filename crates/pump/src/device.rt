@@ -72,7 +72,7 @@ impl Device {
         ensures { λ r. ⌜ r ≡ hearLine self hand next phases ⌝ }
     {
         let emptied = self.with_line(Line::empty());
-        if self.line.address() == 0 {
+        if self.line.address_in() == 0 {
             return emptied.ours(self.line, hand, next, phases);
         }
         Heard {
@@ -104,7 +104,7 @@ impl Device {
         requires { ⌜ self .core .run .place .current ≤ 100 ⌝ }
         ensures { λ r. ⌜ r ≡ obeyed self line hand next phases ⌝ }
     {
-        let obeyed = command::obey(self.core, hand, next, phases, line.command());
+        let obeyed = command::obey(self.core, hand, next, phases, line.command_in());
         let edit = obeyed.edit;
         let reply = obeyed.reply;
         self = self.with_core(obeyed.core);

@@ -6,7 +6,7 @@ use mathlib.Core.List.{List, [], _∷_, _++_}
 use Rattle.base.specs.Rows.{Gives}
 use Rattle.base.specs.Text.{text}
 use Rattle.decimal.specs.Read.{isDigit}
-use Rattle.script.specs.Items.{linesOf, Item, say, level, ticks, noItem, ticksItem, levelItem, itemOf}
+use Rattle.script.specs.Items.{linesOf, Item, say, level, elapse, noItem, ticksItem, levelItem, itemOf}
 
 -- ---- a newline is 10, a return 13
 abbrev inputs : List (List ℕ × List (List ℕ))
@@ -28,9 +28,9 @@ abbrev rows : List (List ℕ × Item)
 rows =
     (text ">RAT 200.0 MH", say (text "RAT 200.0 MH"))
     ∷ (text ">", say [])
-    ∷ (text "T 19", ticks 19)
-    ∷ (text "T 007", ticks 7)
-    ∷ (text "T 10000000", ticks 10_000_000)
+    ∷ (text "T 19", elapse 19)
+    ∷ (text "T 007", elapse 7)
+    ∷ (text "T 10000000", elapse 10_000_000)
     ∷ (text "T 10000001", noItem)
     ∷ (text "T 99999999999999999999", noItem)
     ∷ (text "T 0", noItem)

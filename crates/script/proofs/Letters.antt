@@ -9,8 +9,8 @@ use Rattle.decimal.specs.Read.{isDigit}
 use Rattle.decimal.proofs.Bytes.{digit-yes, digit-low, digit-high}
 use Rattle.script.specs.Numbers.{grown}
 use Rattle.script.specs.Places.{kind, behindTick, inTicks, behindEdge, pinEnded, inPin, inLevel}
-use Rattle.script.specs.declared.places.Place.{Place}
-use Rattle.script.specs.declared.places.Place.the-variants.{Text, Tick, Ticks, Edge, Pin, Level, Bad}
+use Rattle.script.specs.declared.places.Spot.{Spot}
+use Rattle.script.specs.declared.places.Spot.the-variants.{Text, Tick, Ticks, Edge, Pin, Level, Bad}
 
 module _ (b : ℕ) where
   -- ---- the first byte of a line
@@ -71,7 +71,7 @@ module _ (b : ℕ) where
       unfolding inPin
       pin-digit m d e = rw e (sym (simp d))
 
-      pub pin-space : (r : Place) → b ≡ 32 → r ≡ pinEnded some n → r ≡ inPin some n b
+      pub pin-space : (r : Spot) → b ≡ 32 → r ≡ pinEnded some n → r ≡ inPin some n b
       unfolding inPin
       pin-space r e h = h ∙ sym (simp (digit-low b (omega arith), eq-eqb b 32 e))
 

@@ -6,13 +6,13 @@ use mathlib.Core.Bool.{Bool, true, false}
 use borrow.Author.Tests.{eq-eqb, ne-eqb}
 use Rattle.script.specs.Numbers.{ticksAsked, levelAsked}
 use Rattle.script.specs.Places.{kind, behindTick, inTicks, behindEdge, inPin, inLevel}
-use Rattle.script.specs.Places.{lineEnd, inputEnd, returned, returnedAct, next, actOn, after}
+use Rattle.script.specs.Places.{lineEnd, inputEnd, returned, returnedAct, next, actOn, afterSpot}
 use Rattle.script.specs.declared.places.Act.{Act}
 use Rattle.script.specs.declared.places.Act.the-variants.{Wait, Send, Finish}
-use Rattle.script.specs.declared.places.Place.{Place}
-use Rattle.script.specs.declared.places.Place.the-variants.{Start, Text, Tick, Ticks, Edge, Pin, Level, Returned}
+use Rattle.script.specs.declared.places.Spot.{Spot}
+use Rattle.script.specs.declared.places.Spot.the-variants.{Start, Text, Tick, Ticks, Edge, Pin, Level, Returned}
 
-module _ (p : Place) where
+module _ (p : Spot) where
   -- ---- the line's end and the input's
   pub line-ticks : (n : ℕ) (r : Act) → p ≡ Ticks n → r ≡ ticksAsked n → r ≡ lineEnd p
   line-ticks n r e h = rw e h
@@ -45,45 +45,45 @@ module _ (p : Place) where
 
   -- ---- any other byte
   module _ (b : ℕ) where
-    pub next-start : (r : Place) → p ≡ Start → r ≡ kind b → r ≡ next p b
+    pub next-start : (r : Spot) → p ≡ Start → r ≡ kind b → r ≡ next p b
     next-start r e h = rw e h
 
-    pub next-tick : (r : Place) → p ≡ Tick → r ≡ behindTick b → r ≡ next p b
+    pub next-tick : (r : Spot) → p ≡ Tick → r ≡ behindTick b → r ≡ next p b
     next-tick r e h = rw e h
 
-    pub next-ticks : (n : ℕ) (r : Place) → p ≡ Ticks n → r ≡ inTicks n b → r ≡ next p b
+    pub next-ticks : (n : ℕ) (r : Spot) → p ≡ Ticks n → r ≡ inTicks n b → r ≡ next p b
     next-ticks n r e h = rw e h
 
-    pub next-edge : (r : Place) → p ≡ Edge → r ≡ behindEdge b → r ≡ next p b
+    pub next-edge : (r : Spot) → p ≡ Edge → r ≡ behindEdge b → r ≡ next p b
     next-edge r e h = rw e h
 
-    pub next-pin : (some : Bool) (n : ℕ) (r : Place) → p ≡ Pin some n → r ≡ inPin some n b → r ≡ next p b
+    pub next-pin : (some : Bool) (n : ℕ) (r : Spot) → p ≡ Pin some n → r ≡ inPin some n b → r ≡ next p b
     next-pin some n r e h = rw e h
 
-    pub next-level : (pin : ℕ) (some : Bool) (n : ℕ) (r : Place) → p ≡ Level pin some n → r ≡ inLevel pin n b → r ≡ next p b
+    pub next-level : (pin : ℕ) (some : Bool) (n : ℕ) (r : Spot) → p ≡ Level pin some n → r ≡ inLevel pin n b → r ≡ next p b
     next-level pin some n r e h = rw e h
 
     pub text-sent : (held : Bool) → p ≡ Text held → Send held b ≡ actOn p b
     text-sent held e = rw e
 
     -- ---- one byte more
-    pub after-newline : (a : Act) → b ≡ 10 → a ≡ lineEnd p → record { place = Start; act = a } ≡ after p b
-    unfolding after
+    pub after-newline : (a : Act) → b ≡ 10 → a ≡ lineEnd p → record { place = Start; act = a } ≡ afterSpot p b
+    unfolding afterSpot
     after-newline a e h = rw h (sym (simp (eq-eqb b 10 e)))
 
     pub after-return :
-        (q : Place) (a : Act) → b ≡ 13 → q ≡ returned p → a ≡ returnedAct p → record { place = q; act = a } ≡ after p b
-    unfolding after
+        (q : Spot) (a : Act) → b ≡ 13 → q ≡ returned p → a ≡ returnedAct p → record { place = q; act = a } ≡ afterSpot p b
+    unfolding afterSpot
     after-return q a e h k = rw (e, h, k)
 
     pub after-other :
-        (q : Place) (a : Act)
+        (q : Spot) (a : Act)
         → (b ≡ 10 → ⊥)
         → (b ≡ 13 → ⊥)
         → q ≡ next p b
         → a ≡ actOn p b
-        → record { place = q; act = a } ≡ after p b
-    unfolding after
+        → record { place = q; act = a } ≡ afterSpot p b
+    unfolding afterSpot
     after-other q a m n h k = rw (h, k) (sym (simp (ne-eqb b 10 m, ne-eqb b 13 n)))
 
 pub ruleset standing = (

@@ -57,12 +57,12 @@ pastBlank (b ∷ s) = if eqb b (letter " ") then s else pastBlank s
 pub data Item : Type 0 where
   say : List ℕ → Item
   level : ℕ → ℕ → Item
-  ticks : ℕ → Item
+  elapse : ℕ → Item
   noItem : Item
 
 -- `T n` (1 to 10,000,000)
 unfoldable pub ticksItem : List ℕ → Item
-ticksItem n = if isNumber n && leb 1 (valueOf n) && leb (valueOf n) 10_000_000 then ticks (valueOf n) else noItem
+ticksItem n = if isNumber n && leb 1 (valueOf n) && leb (valueOf n) 10_000_000 then elapse (valueOf n) else noItem
 
 -- `E pin level`: the call takes a byte for each, and refuses what is no pin and no level
 unfoldable pub levelItem : List ℕ → List ℕ → Item

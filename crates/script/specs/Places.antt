@@ -10,8 +10,8 @@ use Rattle.decimal.specs.Read.{isDigit}
 use Rattle.script.specs.Numbers.{grown, ticksAsked, levelAsked}
 use Rattle.script.specs.declared.places.Act.{Act}
 use Rattle.script.specs.declared.places.Act.the-variants as act
-use Rattle.script.specs.declared.places.Place.{Place}
-use Rattle.script.specs.declared.places.Place.the-variants.{Start, Text, Tick, Ticks, Edge, Pin, Level, Returned, Bad}
+use Rattle.script.specs.declared.places.Spot.{Spot}
+use Rattle.script.specs.declared.places.Spot.the-variants.{Start, Text, Tick, Ticks, Edge, Pin, Level, Returned, Bad}
 use Rattle.script.specs.declared.places.Step.{Step}
 
 abbrev pub newline : ℕ
@@ -31,7 +31,7 @@ isDeed act.Complain = true
 
 -- ---- a newline ends the line, and the line is done: a text is ended, ticks are run, a pin is set; any other line is `!`, an empty
 -- ---- one too. A return just before the newline belongs to the line's end.
-abbrev pub lineEnd : Place → Act
+abbrev pub lineEnd : Spot → Act
 lineEnd Start = act.Complain
 lineEnd (Text held) = act.Finish false
 lineEnd Tick = act.Complain
@@ -43,7 +43,7 @@ lineEnd (Returned a) = a
 lineEnd Bad = act.Complain
 
 -- ---- the input's end: a last line without a newline counts, and a return at its end is part of it
-abbrev pub inputEnd : Place → Act
+abbrev pub inputEnd : Spot → Act
 inputEnd Start = act.Wait
 inputEnd (Text held) = act.Finish held
 inputEnd Tick = act.Complain
@@ -56,7 +56,7 @@ inputEnd Bad = act.Complain
 
 -- ---- a return: held back in a text, until it shows whether a newline follows; behind a whole item it may belong to the line's end;
 -- ---- no other item has one in it
-abbrev pub returned : Place → Place
+abbrev pub returned : Spot → Spot
 returned Start = Bad
 returned (Text held) = Text true
 returned Tick = Bad
@@ -68,7 +68,7 @@ returned (Returned a) = Bad
 returned Bad = Bad
 
 -- a return behind another in a text: no newline followed the first, so it is sent as it is
-abbrev pub returnedAct : Place → Act
+abbrev pub returnedAct : Spot → Act
 returnedAct Start = act.Wait
 returnedAct (Text held) = if held then act.Send false carriageReturn else act.Wait
 returnedAct Tick = act.Wait
@@ -80,32 +80,32 @@ returnedAct (Returned a) = act.Wait
 returnedAct Bad = act.Wait
 
 -- ---- any other byte. The first of a line says what the item is.
-unfoldable pub kind : ℕ → Place
+unfoldable pub kind : ℕ → Spot
 kind b =
     if eqb b (letter ">") then Text false else if eqb b (letter "T") then Tick else if eqb b (letter "E") then Edge else Bad
 
 -- exactly one blank between the parts, and plain decimal digits
-unfoldable pub behindTick : ℕ → Place
+unfoldable pub behindTick : ℕ → Spot
 behindTick b = if eqb b (letter " ") then Ticks 0 else Bad
 
-unfoldable pub inTicks : ℕ → ℕ → Place
+unfoldable pub inTicks : ℕ → ℕ → Spot
 inTicks n b = if isDigit b then Ticks (grown n (b - 48)) else Bad
 
-unfoldable pub behindEdge : ℕ → Place
+unfoldable pub behindEdge : ℕ → Spot
 behindEdge b = if eqb b (letter " ") then Pin false 0 else Bad
 
 -- a pin has at least one digit
-unfoldable pub pinEnded : Bool → ℕ → Place
+unfoldable pub pinEnded : Bool → ℕ → Spot
 pinEnded some n = if some then Level n false 0 else Bad
 
-unfoldable pub inPin : Bool → ℕ → ℕ → Place
+unfoldable pub inPin : Bool → ℕ → ℕ → Spot
 inPin some n b =
     if isDigit b then Pin true (grown n (b - 48)) else if eqb b (letter " ") then pinEnded some n else Bad
 
-unfoldable pub inLevel : ℕ → ℕ → ℕ → Place
+unfoldable pub inLevel : ℕ → ℕ → ℕ → Spot
 inLevel pin n b = if isDigit b then Level pin true (grown n (b - 48)) else Bad
 
-abbrev pub next : Place → ℕ → Place
+abbrev pub next : Spot → ℕ → Spot
 next Start b = kind b
 next (Text held) b = Text false
 next Tick b = behindTick b
@@ -117,7 +117,7 @@ next (Returned a) b = Bad
 next Bad b = Bad
 
 -- the bytes of a text are sent as they come; of a return that was held back it now shows that no newline follows
-abbrev pub actOn : Place → ℕ → Act
+abbrev pub actOn : Spot → ℕ → Act
 actOn Start b = act.Wait
 actOn (Text held) b = act.Send held b
 actOn Tick b = act.Wait
@@ -129,8 +129,8 @@ actOn (Returned a) b = act.Wait
 actOn Bad b = act.Wait
 
 -- ---- one byte more
-unfoldable pub after : Place → ℕ → Step
-after place b =
+unfoldable pub afterSpot : Spot → ℕ → Step
+afterSpot place b =
     if eqb b newline
     then record { place = Start; act = lineEnd place }
     else if eqb b carriageReturn

@@ -2,72 +2,72 @@
 ghost use mathlib.Core.Path.{_≡_};
 ghost use Rattle.script.specs.Places.{kind, behindTick, inTicks, behindEdge, inPin, pinEnded, inLevel};
 use crate::numbers::grown;
-use crate::places::Place;
+use crate::places::Spot;
 
 // The first byte of a line says what the item is.
-pub fn kind(b: u8) -> Place
+pub fn kind(b: u8) -> Spot
     ensures { λ r. ⌜ r ≡ kind b ⌝ }
 {
     match b {
-        b'>' => Place::Text(false),
-        b'T' => Place::Tick,
-        b'E' => Place::Edge,
-        _ => Place::Bad,
+        b'>' => Spot::Text(false),
+        b'T' => Spot::Tick,
+        b'E' => Spot::Edge,
+        _ => Spot::Bad,
     }
 }
 
-pub fn behind_tick(b: u8) -> Place
+pub fn behind_tick(b: u8) -> Spot
     ensures { λ r. ⌜ r ≡ behindTick b ⌝ }
 {
     if b == b' ' {
-        return Place::Ticks(0);
+        return Spot::Ticks(0);
     }
-    Place::Bad
+    Spot::Bad
 }
 
-pub fn in_ticks(n: u32, b: u8) -> Place
+pub fn in_ticks(n: u32, b: u8) -> Spot
     ensures { λ r. ⌜ r ≡ inTicks n b ⌝ }
 {
     match b {
-        b'0'..=b'9' => Place::Ticks(grown(n, b - b'0')),
-        _ => Place::Bad,
+        b'0'..=b'9' => Spot::Ticks(grown(n, b - b'0')),
+        _ => Spot::Bad,
     }
 }
 
-pub fn behind_edge(b: u8) -> Place
+pub fn behind_edge(b: u8) -> Spot
     ensures { λ r. ⌜ r ≡ behindEdge b ⌝ }
 {
     if b == b' ' {
-        return Place::Pin(false, 0);
+        return Spot::Pin(false, 0);
     }
-    Place::Bad
+    Spot::Bad
 }
 
-pub fn in_pin(some: bool, n: u32, b: u8) -> Place
+pub fn in_pin(some: bool, n: u32, b: u8) -> Spot
     ensures { λ r. ⌜ r ≡ inPin some n b ⌝ }
 {
     match b {
-        b'0'..=b'9' => Place::Pin(true, grown(n, b - b'0')),
+        b'0'..=b'9' => Spot::Pin(true, grown(n, b - b'0')),
         b' ' => pin_ended(some, n),
-        _ => Place::Bad,
+        _ => Spot::Bad,
     }
 }
 
 // A blank ends a pin that has a digit.
-fn pin_ended(some: bool, n: u32) -> Place
+fn pin_ended(some: bool, n: u32) -> Spot
     ensures { λ r. ⌜ r ≡ pinEnded some n ⌝ }
 {
     if some {
-        return Place::Level(n, false, 0);
+        return Spot::Level(n, false, 0);
     }
-    Place::Bad
+    Spot::Bad
 }
 
-pub fn in_level(pin: u32, n: u32, b: u8) -> Place
+pub fn in_level(pin: u32, n: u32, b: u8) -> Spot
     ensures { λ r. ⌜ r ≡ inLevel pin n b ⌝ }
 {
     match b {
-        b'0'..=b'9' => Place::Level(pin, true, grown(n, b - b'0')),
-        _ => Place::Bad,
+        b'0'..=b'9' => Spot::Level(pin, true, grown(n, b - b'0')),
+        _ => Spot::Bad,
     }
 }

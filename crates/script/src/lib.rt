@@ -12,5 +12,5 @@ mod places;
 mod reading;
 
 pub use places::Act;
-pub use places::Place;
+pub use places::Spot;
 pub use places::Step;

@@ -28,7 +28,7 @@ impl Act {
 // Before a line; in a text, and whether a return is held back, since it may belong to the line's end; behind a `T`, in its number;
 // behind an `E`, in its pin and in its level, each with whether a digit came; behind a return that may belong to the line's end,
 // with what the line then asks for; in a line that is no item.
-pub enum Place {
+pub enum Spot {
     Start,
     Text(bool),
     Tick,
@@ -41,6 +41,6 @@ pub enum Place {
 }
 
 pub struct Step {
-    pub place: Place,
+    pub place: Spot,
     pub act: Act,
 }

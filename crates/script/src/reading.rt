@@ -1,6 +1,6 @@
 // One byte more of a line: the place after it, and what it asks for.
 ghost use mathlib.Core.Path.{_≡_};
-ghost use Rattle.script.specs.Places.{after, lineEnd, inputEnd, returned, returnedAct, next, actOn};
+ghost use Rattle.script.specs.Places.{afterSpot, lineEnd, inputEnd, returned, returnedAct, next, actOn};
 use crate::bytes::behind_edge;
 use crate::bytes::behind_tick;
 use crate::bytes::in_level;
@@ -10,17 +10,17 @@ use crate::bytes::kind;
 use crate::numbers::level_asked;
 use crate::numbers::ticks_asked;
 use crate::places::Act;
-use crate::places::Place;
+use crate::places::Spot;
 use crate::places::Step;
 
-impl Place {
+impl Spot {
     // One byte more.
     pub fn after(self, b: u8) -> Step
-        ensures { λ r. ⌜ r ≡ after self b ⌝ }
+        ensures { λ r. ⌜ r ≡ afterSpot self b ⌝ }
     {
         match b {
             b'\n' => Step {
-                place: Place::Start,
+                place: Spot::Start,
                 act: self.line_end(),
             },
             b'\r' => Step {
@@ -39,15 +39,15 @@ impl Place {
         ensures { λ r. ⌜ r ≡ lineEnd self ⌝ }
     {
         match self {
-            Place::Start => Act::Complain,
-            Place::Text(_) => Act::Finish(false),
-            Place::Tick => Act::Complain,
-            Place::Ticks(n) => ticks_asked(n),
-            Place::Edge => Act::Complain,
-            Place::Pin(_, _) => Act::Complain,
-            Place::Level(pin, some, level) => level_asked(pin, some, level),
-            Place::Returned(act) => act,
-            Place::Bad => Act::Complain,
+            Spot::Start => Act::Complain,
+            Spot::Text(_) => Act::Finish(false),
+            Spot::Tick => Act::Complain,
+            Spot::Ticks(n) => ticks_asked(n),
+            Spot::Edge => Act::Complain,
+            Spot::Pin(_, _) => Act::Complain,
+            Spot::Level(pin, some, level) => level_asked(pin, some, level),
+            Spot::Returned(act) => act,
+            Spot::Bad => Act::Complain,
         }
     }
 
@@ -56,38 +56,38 @@ impl Place {
         ensures { λ r. ⌜ r ≡ inputEnd self ⌝ }
     {
         match self {
-            Place::Start => Act::Wait,
-            Place::Text(held) => Act::Finish(held),
-            Place::Tick => Act::Complain,
-            Place::Ticks(n) => ticks_asked(n),
-            Place::Edge => Act::Complain,
-            Place::Pin(_, _) => Act::Complain,
-            Place::Level(pin, some, level) => level_asked(pin, some, level),
-            Place::Returned(_) => Act::Complain,
-            Place::Bad => Act::Complain,
+            Spot::Start => Act::Wait,
+            Spot::Text(held) => Act::Finish(held),
+            Spot::Tick => Act::Complain,
+            Spot::Ticks(n) => ticks_asked(n),
+            Spot::Edge => Act::Complain,
+            Spot::Pin(_, _) => Act::Complain,
+            Spot::Level(pin, some, level) => level_asked(pin, some, level),
+            Spot::Returned(_) => Act::Complain,
+            Spot::Bad => Act::Complain,
         }
     }
 
     // A return: held back in a text; behind a whole item it may belong to the line's end; no other item has one in it.
-    fn returned(self) -> Place
+    fn returned(self) -> Spot
         ensures { λ r. ⌜ r ≡ returned self ⌝ }
     {
         match self {
-            Place::Start => Place::Bad,
-            Place::Text(_) => Place::Text(true),
-            Place::Tick => Place::Bad,
-            Place::Ticks(n) => {
+            Spot::Start => Spot::Bad,
+            Spot::Text(_) => Spot::Text(true),
+            Spot::Tick => Spot::Bad,
+            Spot::Ticks(n) => {
                 let act = ticks_asked(n);
-                Place::Returned(act)
+                Spot::Returned(act)
             }
-            Place::Edge => Place::Bad,
-            Place::Pin(_, _) => Place::Bad,
-            Place::Level(pin, some, level) => {
+            Spot::Edge => Spot::Bad,
+            Spot::Pin(_, _) => Spot::Bad,
+            Spot::Level(pin, some, level) => {
                 let act = level_asked(pin, some, level);
-                Place::Returned(act)
+                Spot::Returned(act)
             }
-            Place::Returned(_) => Place::Bad,
-            Place::Bad => Place::Bad,
+            Spot::Returned(_) => Spot::Bad,
+            Spot::Bad => Spot::Bad,
         }
     }
 
@@ -96,37 +96,37 @@ impl Place {
         ensures { λ r. ⌜ r ≡ returnedAct self ⌝ }
     {
         match self {
-            Place::Start => Act::Wait,
-            Place::Text(held) => {
+            Spot::Start => Act::Wait,
+            Spot::Text(held) => {
                 if held {
                     return Act::Send(false, b'\r');
                 }
                 Act::Wait
             }
-            Place::Tick => Act::Wait,
-            Place::Ticks(_) => Act::Wait,
-            Place::Edge => Act::Wait,
-            Place::Pin(_, _) => Act::Wait,
-            Place::Level(_, _, _) => Act::Wait,
-            Place::Returned(_) => Act::Wait,
-            Place::Bad => Act::Wait,
+            Spot::Tick => Act::Wait,
+            Spot::Ticks(_) => Act::Wait,
+            Spot::Edge => Act::Wait,
+            Spot::Pin(_, _) => Act::Wait,
+            Spot::Level(_, _, _) => Act::Wait,
+            Spot::Returned(_) => Act::Wait,
+            Spot::Bad => Act::Wait,
         }
     }
 
     // Any other byte: where the input then stands.
-    fn next(self, b: u8) -> Place
+    fn next(self, b: u8) -> Spot
         ensures { λ r. ⌜ r ≡ next self b ⌝ }
     {
         match self {
-            Place::Start => kind(b),
-            Place::Text(_) => Place::Text(false),
-            Place::Tick => behind_tick(b),
-            Place::Ticks(n) => in_ticks(n, b),
-            Place::Edge => behind_edge(b),
-            Place::Pin(some, n) => in_pin(some, n, b),
-            Place::Level(pin, _, n) => in_level(pin, n, b),
-            Place::Returned(_) => Place::Bad,
-            Place::Bad => Place::Bad,
+            Spot::Start => kind(b),
+            Spot::Text(_) => Spot::Text(false),
+            Spot::Tick => behind_tick(b),
+            Spot::Ticks(n) => in_ticks(n, b),
+            Spot::Edge => behind_edge(b),
+            Spot::Pin(some, n) => in_pin(some, n, b),
+            Spot::Level(pin, _, n) => in_level(pin, n, b),
+            Spot::Returned(_) => Spot::Bad,
+            Spot::Bad => Spot::Bad,
         }
     }
 
@@ -135,15 +135,15 @@ impl Place {
         ensures { λ r. ⌜ r ≡ actOn self b ⌝ }
     {
         match self {
-            Place::Start => Act::Wait,
-            Place::Text(held) => Act::Send(held, b),
-            Place::Tick => Act::Wait,
-            Place::Ticks(_) => Act::Wait,
-            Place::Edge => Act::Wait,
-            Place::Pin(_, _) => Act::Wait,
-            Place::Level(_, _, _) => Act::Wait,
-            Place::Returned(_) => Act::Wait,
-            Place::Bad => Act::Wait,
+            Spot::Start => Act::Wait,
+            Spot::Text(held) => Act::Send(held, b),
+            Spot::Tick => Act::Wait,
+            Spot::Ticks(_) => Act::Wait,
+            Spot::Edge => Act::Wait,
+            Spot::Pin(_, _) => Act::Wait,
+            Spot::Level(_, _, _) => Act::Wait,
+            Spot::Returned(_) => Act::Wait,
+            Spot::Bad => Act::Wait,
         }
     }
 }

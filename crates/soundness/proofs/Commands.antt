@@ -8,10 +8,10 @@ use lib.Dec.{eqb}
 use borrow.Author.Tests.{eqb-true, not-true}
 use Rattle.base.specs.If.{if_then_else_}
 use Rattle.base.proofs.Choices.{and-left, and-right, false-true}
-use Rattle.decimal.specs.Writable.{writable}
+use Rattle.decimal.specs.Writable.{isWritable}
 use Rattle.decimal.proofs.Grid.{writable-grid}
-use Rattle.drive.specs.Rates.{usable}
-use Rattle.drive.specs.Syringe.{diameter}
+use Rattle.drive.specs.Rates.{isUsable}
+use Rattle.drive.specs.Syringe.{isDiameter}
 use Rattle.drive.specs.Directions.{reverse}
 use Rattle.drive.specs.declared.directions.Direction.{Direction}
 use Rattle.words.specs.Commands.{amount}
@@ -40,7 +40,7 @@ use Rattle.command.specs.declared.judging.Verdict.{Verdict}
 use Rattle.command.specs.declared.judging.Verdict.the-variants.{Accepted, NotApplicable, OutOfRange}
 use Rattle.command.specs.declared.obeying.Edit.{Edit}
 use Rattle.command.specs.declared.obeying.Edit.the-variants.{Keep, Write}
-use Rattle.soundness.specs.Kept.{Kept, withPhase, WellBy, Well}
+use Rattle.soundness.specs.Kept.{Kept, tableWith, WellBy, Well}
 use Rattle.soundness.proofs.Control.{run-on-kept, run-from-kept, stop-now-kept}
 use Rattle.soundness.proofs.Cores.{clauses, run-kept, with-run-kept, given-sound, reset-sound}
 use Rattle.soundness.proofs.Runs.{by-test, phase-bounds, Going, going-of, going-with, within}
@@ -108,19 +108,19 @@ module _ (phases : ℕ) (look : ℕ → Phase) (table : Table phases look) (s : 
       )
 
   -- ---- DIA
-  set-diameter-well : (x : ℕ) → writable x ≡ true → Well phases look s (obeying.setDiameter s x)
+  set-diameter-well : (x : ℕ) → isWritable x ≡ true → Well phases look s (obeying.setDiameter s x)
   unfolding obeying.setDiameter judging.judgeDiameter
   set-diameter-well x w =
       decided _ Keep (judging.judgeDiameter (isOperating (s .run)) x)
       (λ e.
       let idle = by-else (isOperating (s .run)) NotApplicable _ refl e in
-      let fit = by-then (diameter x) Accepted OutOfRange refl (idle .1) in
+      let fit = by-then (isDiameter x) Accepted OutOfRange refl (idle .1) in
       set.settle-sound phases s here parts (idle .0) (record { diameter = x }) _ (fit .0) w)
 
   -- ---- RAT: the current rate alone, at one that is usable
   tune-well :
       (x : ℕ)
-      → writable x ≡ true
+      → isWritable x ≡ true
       → isOperating (s .run) ≡ true
       → (rate : Rate)
       → judging.judgeRate (s .syringe) x rate ≡ Accepted
@@ -129,7 +129,7 @@ module _ (phases : ℕ) (look : ℕ → Phase) (table : Table phases look) (s : 
   tune-well x w op (Current unit r) e =
       let d = s .syringe in
       let g = going op in
-      let u = by-then (usable d x unit) Accepted OutOfRange refl e .0 in
+      let u = by-then (isUsable d x unit) Accepted OutOfRange refl e .0 in
       with-run-kept phases look s kept (withRate (s .run) (Current unit x)) (
         run-sound phases _
             (going-with phases (s .run) (Current unit x) (s .run .trap) (s .run .loops) g (writable-grid x w .bounded)
@@ -137,7 +137,7 @@ module _ (phases : ℕ) (look : ℕ → Phase) (table : Table phases look) (s : 
         set.work-stays d here (here .direction) (s .run .rate) (Current unit x) (s .run .place .work) (λ _. u) (parts .work-sound),
       )
 
-  set-rate-well : (next : Function) (x : ℕ) (units : Units) → writable x ≡ true → Well phases look s (obeying.setRate s hand next x units)
+  set-rate-well : (next : Function) (x : ℕ) (units : Units) → isWritable x ≡ true → Well phases look s (obeying.setRate s hand next x units)
   unfolding obeying.setRate obeying.tune judging.judgeTuning
   set-rate-well next x units w =
       let now = isFlow (hand .function) && isVisiting (s .run .place .work) && not (isRamp next) && judging.isOwn units in
@@ -151,7 +151,7 @@ module _ (phases : ℕ) (look : ℕ → Phase) (table : Table phases look) (s : 
 
   -- ---- VOL
   set-volume-well :
-      (x : ℕ) → writable x ≡ true → Well phases look s (setPhaseTo s (withVolume hand x) (judging.judgeVolume (isOperating (s .run)) hand))
+      (x : ℕ) → isWritable x ≡ true → Well phases look s (setPhaseTo s (withVolume hand x) (judging.judgeVolume (isOperating (s .run)) hand))
   unfolding judging.judgeVolume
   set-volume-well x w =
       decided (withRun s (settle (s .run))) (Write _) (judging.judgeVolume (isOperating (s .run)) hand)
@@ -200,7 +200,7 @@ module _ (phases : ℕ) (look : ℕ → Phase) (table : Table phases look) (s : 
       (figure-sound (s .ledger) way 0 (parts .ledger-sound) (omega arith)))
 
   -- ---- DIR, also while operating: no test of the core mentions a direction
-  directed-kept : (k : ℕ) (way : Direction) → Kept phases (withPhase look k (withDirection (look k) way)) s
+  directed-kept : (k : ℕ) (way : Direction) → Kept phases (tableWith look k (withDirection (look k) way)) s
   directed-kept k way =
       let directed = given-sound phases look s kept (s .run) (s .ledger) (withDirection here way) (parts .under-way)
       (set.work-stays (s .syringe) here way (s .run .rate) (s .run .rate) (s .run .place .work) (λ u. u) (parts .work-sound))
@@ -239,7 +239,7 @@ module _ (phases : ℕ) (look : ℕ → Phase) (table : Table phases look) (s : 
       go true op true k n = (
         sound,
         rate-within op (and-left (isRatePhase (hand .function)) (eqb (hand .volume) 0) k),
-        subst (λ (m : Mode). Kept phases (withPhase look (inHand s) (withDirection hand way)) (withRun s (settleBy (s .run) m)))
+        subst (λ (m : Mode). Kept phases (tableWith look (inHand s) (withDirection hand way)) (withRun s (settleBy (s .run) m)))
             (sym (running-of (s .run .mode) op)) (directed-kept (inHand s) way),
       )
       go true op false k n = false-true (sym n)
@@ -249,7 +249,7 @@ module _ (phases : ℕ) (look : ℕ → Phase) (table : Table phases look) (s : 
   pub kept-obey :
       1 ≤ phases
       → (next : Function) (command : Command)
-      → writable (amount command) ≡ true
+      → isWritable (amount command) ≡ true
       → Well phases look s (obey s hand next phases command)
   kept-obey h next c.Malformed w = kept
   kept-obey h next c.Status w = kept

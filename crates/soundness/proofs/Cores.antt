@@ -4,8 +4,8 @@ use Prim.Native.Nat.{ℕ, _≤_}
 use mathlib.Core.Path.{_≡_, refl}
 use mathlib.Core.Bool.{Bool, true}
 use native.Mathlib.Omega.{arith}
-use Rattle.decimal.specs.Writable.{writable}
-use Rattle.drive.specs.Syringe.{diameter}
+use Rattle.decimal.specs.Writable.{isWritable}
+use Rattle.drive.specs.Syringe.{isDiameter}
 use Rattle.words.specs.declared.answers.Alarm.the-variants.{PowerUp}
 use Rattle.words.specs.declared.phases.Phase.{Phase}
 use Rattle.dispense.specs.Ledgers.{isSoundLedger}
@@ -75,7 +75,7 @@ new-sound :
     → 1 ≤ phases
     → (alarm : Pending) (pins : Pins) (p : Phase)
     → isSoundCore phases (withPins (withRun powerUpCore (freshAt 1 (Stopped alarm))) pins) p ≡ true
-unfolding diameter writable
+unfolding isDiameter isWritable
 new-sound phases h alarm pins p =
     core-sound phases _ p
     (record {

@@ -10,7 +10,7 @@ use Rattle.base.proofs.Choices.{and-left, and-right}
 use Rattle.base.proofs.Each.{and-both}
 use Rattle.decimal.proofs.Grid.{writable-grid}
 use Rattle.drive.specs.Rates.{mostRate}
-use Rattle.drive.specs.Syringe.{diameter, threshold, target}
+use Rattle.drive.specs.Syringe.{isDiameter, stepThreshold, stepTarget}
 use Rattle.drive.specs.declared.syringe.Syringe.{Syringe}
 use Rattle.drive.proofs.Bounds.{threshold-ge}
 use Rattle.words.specs.Functions.{number, fits, isPhase, isRatePhase, isWait, pauseTicks}
@@ -52,8 +52,8 @@ decrease-most NoRate x h = omega arith
 decrease-most (Current unit r) x h = omega arith
 
 -- a diameter in its range gives a threshold
-pub threshold-above : (d : Syringe) → diameter (d .diameter) ≡ true → 0 < threshold d
-unfolding diameter
+pub threshold-above : (d : Syringe) → isDiameter (d .diameter) ≡ true → 0 < stepThreshold d
+unfolding isDiameter
 threshold-above d e = omega (arith, threshold-ge d (leb-true 100 (d .diameter) (and-left (leb 100 (d .diameter)) (leb (d .diameter) 50_000) e)))
 
 module _ (phases : ℕ) (look : ℕ → Phase) (d : Syringe) (r : Run) (g : Going phases r) where
@@ -62,14 +62,14 @@ module _ (phases : ℕ) (look : ℕ → Phase) (d : Syringe) (r : Run) (g : Goin
 
   -- ---- RAT, INC, DEC: a visit begun at a usable current rate, or ended at entry
   begin-kept :
-      diameter (d .diameter) ≡ true
+      isDiameter (d .diameter) ≡ true
       → r .place .current ≤ phases
       → isRatePhase (here .function) ≡ true
       → isUsableRate d (r .rate) ≡ true
       → KeptRun phases look d (beginVisit r d here)
   unfolding beginVisit
   begin-kept e c k u =
-      by-test (KeptRun phases look d) (ltb 0 (here .volume) && eqb (target d (here .volume)) 0)
+      by-test (KeptRun phases look d) (ltb 0 (here .volume) && eqb (stepTarget d (here .volume)) 0)
       (λ q. next-kept phases look d r g c)
       (λ q. doing-kept phases look d r g (Visiting _) (begun-sound d here (r .rate) (threshold-above d e) u k q))
 
@@ -148,7 +148,7 @@ module _ (phases : ℕ) (look : ℕ → Phase) (d : Syringe) (r : Run) (g : Goin
   unfolding clearTrap
   evr-kept c = next-kept phases look d (withTrap r NoTrap) (going-trap NoTrap refl) c
 
-module _ (phases : ℕ) (look : ℕ → Phase) (table : Table phases look) (d : Syringe) (e : diameter (d .diameter) ≡ true) (r : Run) (g : Going phases r) where
+module _ (phases : ℕ) (look : ℕ → Phase) (table : Table phases look) (d : Syringe) (e : isDiameter (d .diameter) ≡ true) (r : Run) (g : Going phases r) where
   abbrev now : Phase
   now = look (r .place .current)
 

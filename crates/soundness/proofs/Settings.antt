@@ -4,8 +4,8 @@ use Prim.Native.Nat.{ℕ}
 use mathlib.Core.Path.{_≡_, refl, sym, ap}
 use mathlib.Core.Bool.{true, false}
 use Rattle.base.proofs.Choices.{false-true}
-use Rattle.decimal.specs.Writable.{writable}
-use Rattle.drive.specs.Syringe.{diameter}
+use Rattle.decimal.specs.Writable.{isWritable}
+use Rattle.drive.specs.Syringe.{isDiameter}
 use Rattle.drive.specs.declared.rates.RateUnit.{RateUnit}
 use Rattle.drive.specs.declared.directions.Direction.{Direction}
 use Rattle.drive.specs.declared.syringe.Syringe.{Syringe}
@@ -36,11 +36,11 @@ module _ (phases : ℕ) (p : Phase) (sound : isSoundPhase phases p ≡ true) whe
   c : PhaseClauses phases p
   c = phase-clauses phases p sound
 
-  pub stored-sound : (x : ℕ) (unit : RateUnit) → writable x ≡ true → isSoundPhase phases (withStored p x unit) ≡ true
+  pub stored-sound : (x : ℕ) (unit : RateUnit) → isWritable x ≡ true → isSoundPhase phases (withStored p x unit) ≡ true
   stored-sound x unit h =
       phase-sound phases _ (record { rate-written = h; volume-written = c .volume-written; datum-fits = c .datum-fits })
 
-  pub volume-sound : (x : ℕ) → writable x ≡ true → isSoundPhase phases (withVolume p x) ≡ true
+  pub volume-sound : (x : ℕ) → isWritable x ≡ true → isSoundPhase phases (withVolume p x) ≡ true
   volume-sound x h = phase-sound phases _ (record { rate-written = c .rate-written; volume-written = h; datum-fits = c .datum-fits })
 
   pub direction-sound : (way : Direction) → isSoundPhase phases (withDirection p way) ≡ true
@@ -88,8 +88,8 @@ pub settle-sound :
     → CoreClauses phases s here
     → isOperating (s .run) ≡ false
     → (y : Syringe) (p : Phase)
-    → diameter (y .diameter) ≡ true
-    → writable (y .diameter) ≡ true
+    → isDiameter (y .diameter) ≡ true
+    → isWritable (y .diameter) ≡ true
     → isSoundCore phases (withSyringe (withRun s (settle (s .run))) y) p ≡ true
 unfolding settle
 settle-sound phases s here k rests y p e w =

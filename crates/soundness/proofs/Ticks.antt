@@ -13,7 +13,7 @@ use Rattle.program.specs.declared.state.Mode.the-variants.{Stopped, Paused, Run
 use Rattle.program.specs.declared.state.Work.{Work}
 use Rattle.program.specs.declared.state.Work.the-variants.{Entering, Visiting, Pausing, Waiting}
 use Rattle.program.proofs.Parts.{run-clauses}
-use Rattle.tick.specs.Ticks.{entered, steps, workBy, tickBy, tickOf}
+use Rattle.tick.specs.Ticks.{entered, steps, workBy, tickBy, tick}
 use Rattle.soundness.specs.Kept.{Kept}
 use Rattle.soundness.proofs.Cores.{clauses, run-kept, given-sound, with-run-kept, levels-kept}
 use Rattle.soundness.proofs.Entering.{enter-kept}
@@ -66,6 +66,6 @@ pub kept-tick :
     → Table phases look
     → (s : Core)
     → Kept phases look s
-    → Kept phases look (tickOf s (look (s .run .place .current)) .core)
-unfolding tickOf
+    → Kept phases look (tick s (look (s .run .place .current)) .core)
+unfolding tick
 kept-tick phases look table s kept = tick-by-kept phases look table s kept (s .run .mode) refl

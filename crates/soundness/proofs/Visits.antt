@@ -10,7 +10,7 @@ use lib.Dec.{leb, ltb, eqb}
 use borrow.Author.Tests.{leb-false, lt-ltb, ne-eqb}
 use Rattle.base.specs.If.{if_then_else_}
 use Rattle.base.proofs.Choices.{false-true}
-use Rattle.drive.specs.Syringe.{threshold, target}
+use Rattle.drive.specs.Syringe.{stepThreshold, stepTarget}
 use Rattle.drive.specs.declared.syringe.Syringe.{Syringe}
 use Rattle.words.specs.Functions.{isRatePhase}
 use Rattle.words.specs.declared.phases.Phase.{Phase}
@@ -32,11 +32,11 @@ none-given (suc m) (suc n) h = inl (omega arith)
 
 pub begun-sound :
     (d : Syringe) (p : Phase) (rate : Rate)
-    → 0 < threshold d
+    → 0 < stepThreshold d
     → isUsableRate d rate ≡ true
     → isRatePhase (p .function) ≡ true
-    → (ltb 0 (p .volume) && eqb (target d (p .volume)) 0) ≡ false
-    → isSoundVisit d p rate (record { given = 0; target = target d (p .volume); store = 0 }) ≡ true
+    → (ltb 0 (p .volume) && eqb (stepTarget d (p .volume)) 0) ≡ false
+    → isSoundVisit d p rate (record { given = 0; target = stepTarget d (p .volume); store = 0 }) ≡ true
 begun-sound d p rate h u k b =
     visit-sound d p rate _
     (record { store-below = h; aimed = refl; fewer-given = none-given (p .volume) _ b; rate-usable = u; in-rate-phase = k })
@@ -54,10 +54,10 @@ below (suc n) given more h d =
 
 pub worked-sound :
     (d : Syringe) (p : Phase) (rate : Rate) (v : Visit) (hourly : ℕ)
-    → 0 < threshold d
+    → 0 < stepThreshold d
     → isSoundVisit d p rate v ≡ true
-    → isDone (workedOf v hourly (threshold d)) ≡ false
-    → isSoundVisit d p rate (workedOf v hourly (threshold d)) ≡ true
+    → isDone (workedOf v hourly (stepThreshold d)) ≡ false
+    → isSoundVisit d p rate (workedOf v hourly (stepThreshold d)) ≡ true
 unfolding workedOf givenOf storeOf isDone
 worked-sound d p rate v hourly h s n =
     let c = visit-clauses d p rate v s in
@@ -65,7 +65,7 @@ worked-sound d p rate v hourly h s n =
     (record {
       store-below = mod-lt (v .store + hourly) h;
       aimed = c .aimed;
-      fewer-given = below (v .target) (v .given) (v .given + stepsOf v hourly (threshold d)) (c .fewer-given) n;
+      fewer-given = below (v .target) (v .given) (v .given + stepsOf v hourly (stepThreshold d)) (c .fewer-given) n;
       rate-usable = c .rate-usable;
       in-rate-phase = c .in-rate-phase;
     })

@@ -8,8 +8,8 @@ use lib.Dec.{leb, eqb}
 use borrow.Author.Tests.{leb-true, leb-false, le-leb, ne-eqb}
 use Rattle.base.proofs.Choices.{and-left, and-right}
 use Rattle.base.proofs.Each.{and-both}
-use Rattle.drive.specs.Rates.{hourly}
-use Rattle.drive.specs.Syringe.{diameter, threshold}
+use Rattle.drive.specs.Rates.{hourlyRate}
+use Rattle.drive.specs.Syringe.{isDiameter, stepThreshold}
 use Rattle.drive.specs.declared.directions.Direction.{Direction}
 use Rattle.drive.specs.declared.directions.Direction.the-variants.{Infuse, Withdraw}
 use Rattle.drive.specs.declared.syringe.Syringe.{Syringe}
@@ -57,7 +57,7 @@ pause-not-stop g left lo hi =
     ne-eqb (number g) 3
     (λ e. let none : pauseTicks g ≡ 0 = simp (ne-eqb (number g) 8 (omega arith), ne-eqb (number g) 9 (omega arith)) in absurd (omega arith))
 
-module _ (phases : ℕ) (look : ℕ → Phase) (table : Table phases look) (d : Syringe) (e : diameter (d .diameter) ≡ true) (r : Run) (g : Going phases r) where
+module _ (phases : ℕ) (look : ℕ → Phase) (table : Table phases look) (d : Syringe) (e : isDiameter (d .diameter) ≡ true) (r : Run) (g : Going phases r) where
   abbrev here : Phase
   here = look (r .place .current)
 
@@ -83,7 +83,7 @@ module _ (phases : ℕ) (look : ℕ → Phase) (table : Table phases look) (d : 
   give-kept l way v hourly s w =
       by-test (KeptGiven phases look d) (leb (totalOf l way + doseOf d v hourly) mostTotal)
       (λ q. (
-        after-kept (workedOf v hourly (threshold d))
+        after-kept (workedOf v hourly (stepThreshold d))
             (within phases look table r (g .clauses) (rate-not-stop (here .function) (visit-clauses d here (r .rate) v w .in-rate-phase)))
             (worked-sound d here (r .rate) v hourly (threshold-above d e) w),
         figure-sound l way (totalOf l way + doseOf d v hourly) s (leb-true _ _ q),
@@ -102,7 +102,7 @@ module _ (phases : ℕ) (look : ℕ → Phase) (table : Table phases look) (d : 
     where
       go : (rate : Rate) → KeptGiven phases look d (workAt r l d way v rate)
       go NoRate = (k, s)
-      go (Current unit x) = give-kept l way v (hourly x unit) s w
+      go (Current unit x) = give-kept l way v (hourlyRate x unit) s w
 
   -- ---- a timed pause
   pub pause-kept : (left : ℕ) → isSoundWork d here (r .rate) (Pausing left) ≡ true → KeptRun phases look d (workPause r left)

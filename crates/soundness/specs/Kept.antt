@@ -1,5 +1,5 @@
 -- A core, and a program under way, that are sound in a table of phases, which is given by what stands at each number.   (01, Calls)
-use Prim.Native.Nat.{ℕ, _+_, _≤_}
+use Prim.Native.Nat.{ℕ, _≤_}
 use mathlib.Core.Path.{_≡_}
 use mathlib.Core.Bool.{true}
 use lib.Dec.{eqb}
@@ -25,15 +25,15 @@ KeptRun phases look y r =
     (isSoundRun phases r ≡ true) × (isSoundWork y (look (r .place .current)) (r .rate) (r .place .work) ≡ true)
 
 -- the table with another phase at one number
-abbrev pub withPhase : (ℕ → Phase) → ℕ → Phase → ℕ → Phase
-withPhase look k p n = if eqb n k then p else look n
+abbrev pub tableWith : (ℕ → Phase) → ℕ → Phase → ℕ → Phase
+tableWith look k p n = if eqb n k then p else look n
 
 -- what a command must leave sound, by what it asks to be done to the phases: with nothing, the core among them; with another phase in
 -- hand, that phase, which is not past the last, and the core among the phases as they then are; with all anew, the core in any phase
 abbrev pub WellBy : ℕ → (ℕ → Phase) → Core → Core → Edit → Type 0
 WellBy phases look s after Keep = Kept phases look after
 WellBy phases look s after (Write p) =
-    (isSoundPhase phases p ≡ true) × (inHand s ≤ phases) × Kept phases (withPhase look (inHand s) p) after
+    (isSoundPhase phases p ≡ true) × (inHand s ≤ phases) × Kept phases (tableWith look (inHand s) p) after
 WellBy phases look s after Renew = (p : Phase) → isSoundCore phases after p ≡ true
 
 abbrev pub Well : ℕ → (ℕ → Phase) → Core → Obeyed → Type 0

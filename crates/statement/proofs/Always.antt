@@ -40,9 +40,9 @@ use Rattle.statement.specs.Facts.{Sound, coreOf}
 use Rattle.statement.specs.Histories.{Call, byteIn, pinAt, tickIn, reportAfter, after, Model, Whole}
 use Rattle.statement.specs.Outcomes as out
 use Rattle.statement.specs.Outcomes.{Outcome, outcomeOf, numberOf, Edge, two, four, six, Does, Meets}
-use Rattle.statement.specs.Outcomes.{withCore, emptied, obeyed, obeying}
+use Rattle.statement.specs.Outcomes.{pumpWithCore, emptied, carriedOut, obeying}
 use Rattle.statement.specs.Outcomes.{RefusedAs, not-sound, short-buffer, no-such-pin, no-such-level}
-use Rattle.statement.specs.Outcomes.{Hears, collected, other-address, alarm-pending, reset, obeys}
+use Rattle.statement.specs.Outcomes.{Hears, collected, other-address, alarm-pending, resets, obeys}
 use Rattle.statement.proofs.Outcomes.{call-meets, does-number}
 use Rattle.statement.proofs.Placing.{placed-at, placed-sound}
 use Rattle.statement.proofs.Soundness.{sound-facts}
@@ -62,15 +62,15 @@ edited-count p n Keep = refl
 edited-count p n (Write x) = with-phase-count p n x
 edited-count p n Renew = fresh-count (phaseCount p)
 
-obeyed-count : (p : Pump) (command : Command) → phaseCount (obeyed p command .pump) ≡ phaseCount p
+obeyed-count : (p : Pump) (command : Command) → phaseCount (carriedOut p command .pump) ≡ phaseCount p
 obeyed-count p command =
-    edited-count (withCore (emptied p) (obeying p command .core)) (inHand (coreOf p)) (obeying p command .edit)
+    edited-count (pumpWithCore (emptied p) (obeying p command .core)) (inHand (coreOf p)) (obeying p command .edit)
 
 hears-count : (p : Pump) (b : ℕ) (s : Listened) → Hears p b s → phaseCount (s .pump) ≡ phaseCount p
 hears-count p b s (collected n) = refl
 hears-count p b s (other-address e n) = refl
 hears-count p b s (alarm-pending a e z k) = refl
-hears-count p b s (reset e z k r) = fresh-count (phaseCount p)
+hears-count p b s (resets e z k r) = fresh-count (phaseCount p)
 hears-count p b s (obeys e z k) = obeyed-count p (commandIn (p .device .line))
 
 does-count : (p : Pump) (call : Call) (o : Outcome) → Does p call o → phaseCount (o .report .pump) ≡ phaseCount p
@@ -82,7 +82,7 @@ pub call-phases : (p : Pump) (call : Call) → phaseCount (reportAfter p call .p
 call-phases p call = go (call-meets p call)
   where
     go : Meets p call (outcomeOf p call) → phaseCount (reportAfter p call .pump) ≡ phaseCount p
-    go (out.refused k r t) = ap phaseCount (t .same-state)
+    go (out.turned-down k r t) = ap phaseCount (t .same-state)
     go (out.accepted n d) = does-count p call (outcomeOf p call) d
 
 -- ---- and a whole state whole
@@ -114,11 +114,11 @@ module _ (p : Pump) (w : Whole p) where
       (s : Core) (x : Phase)
       → isSoundPhase (phaseCount p) x ≡ true
       → n ≤ phaseCount p
-      → Kept (phaseCount p) (kept.withPhase look n x) s
-      → Whole (withPhase (withCore p s) n x)
+      → Kept (phaseCount p) (kept.tableWith look n x) s
+      → Whole (withPhase (pumpWithCore p s) n x)
   unfolding withPhase
   placed-whole s x e most k =
-      subst (λ t. Whole (if t then withPhases (withCore p s) placed else withCore p s))
+      subst (λ t. Whole (if t then withPhases (pumpWithCore p s) placed else pumpWithCore p s))
       (sym (and-both (leb 1 n) (leb n (phaseCount p)) (le-leb 1 n least) (le-leb n (phaseCount p) most)))
       (phases-whole p placed s w (length-set (p .phases) (n - 1) x)
       (placed-sound (phaseCount p) (p .phases) (n - 1) x (pump-phases p (w .sound)) e)
@@ -127,13 +127,13 @@ module _ (p : Pump) (w : Whole p) where
       placed : List Phase
       placed = set (p .phases) (n - 1) x
 
-  edited-whole : (s : Core) (edit : Edit) → WellBy (phaseCount p) look (coreOf p) s edit → Whole (edited (withCore p s) n edit)
+  edited-whole : (s : Core) (edit : Edit) → WellBy (phaseCount p) look (coreOf p) s edit → Whole (edited (pumpWithCore p s) n edit)
   edited-whole s Keep k = core-whole p w s k
   edited-whole s (Write x) k = placed-whole s x (k .0) (k .1) (k .2)
   edited-whole s Renew k =
       phases-whole p (freshPhases (phaseCount p)) s w (fresh-count (phaseCount p)) (fresh-phases (phaseCount p) (phaseCount p)) (k _)
 
-  edge-whole : (level : Bool) (pin : ℕ) (s : Core) → Edge (coreOf p) level pin s → Whole (withCore p s)
+  edge-whole : (level : Bool) (pin : ℕ) (s : Core) → Edge (coreOf p) level pin s → Whole (pumpWithCore p s)
   edge-whole level pin s two = core-whole p w _ (kept-pin-two (phaseCount p) look table (coreOf p) core-kept level)
   edge-whole level pin s four = core-whole p w _ (kept-pin-four (phaseCount p) look table (coreOf p) core-kept level)
   edge-whole level pin s six = core-whole p w _ (kept-pin-six (phaseCount p) look table (coreOf p) core-kept level)
@@ -141,7 +141,7 @@ module _ (p : Pump) (w : Whole p) where
   emptied-whole : Whole (emptied p)
   emptied-whole = line-whole p w emptyLine refl empty-sound
 
-obeyed-whole : (p : Pump) → Whole p → Whole (obeyed p (commandIn (p .device .line)) .pump)
+obeyed-whole : (p : Pump) → Whole p → Whole (carriedOut p (commandIn (p .device .line)) .pump)
 obeyed-whole p w =
     let command = commandIn (p .device .line) in
     edited-whole (emptied p) (emptied-whole p w) (obeying p command .core) (obeying p command .edit)
@@ -155,7 +155,7 @@ hears-whole p w b s (collected n) =
 hears-whole p w b s (other-address e n) = emptied-whole p w
 hears-whole p w b s (alarm-pending a e z k) =
     core-whole (emptied p) (emptied-whole p w) _ (kept-clear-alarm (phaseCount p) (look p w) (coreOf p) (core-kept p w))
-hears-whole p w b s (reset e z k r) = subst (λ c. Whole (obeyed p c .pump)) r (obeyed-whole p w)
+hears-whole p w b s (resets e z k r) = subst (λ c. Whole (carriedOut p c .pump)) r (obeyed-whole p w)
 hears-whole p w b s (obeys e z k) = obeyed-whole p w
 
 does-whole : (p : Pump) → Whole p → (call : Call) (o : Outcome) → Does p call o → Whole (o .report .pump)
@@ -168,7 +168,7 @@ pub call-whole : (p : Pump) (call : Call) → Whole p → Whole (reportAfter p c
 call-whole p call w = go (call-meets p call)
   where
     go : Meets p call (outcomeOf p call) → Whole (reportAfter p call .pump)
-    go (out.refused k r t) = subst Whole (sym (t .same-state)) w
+    go (out.turned-down k r t) = subst Whole (sym (t .same-state)) w
     go (out.accepted n d) = does-whole p w call (outcomeOf p call) d
 
 -- ---- any number of calls
@@ -207,7 +207,7 @@ sound-number : (p : Pump) → Sound p → (call : Call) → numberOf (outcomeOf 
 sound-number p s call = go (call-meets p call)
   where
     go : Meets p call (outcomeOf p call) → numberOf (outcomeOf p call) ≤ 3
-    go (out.refused k r t) = omega (arith, t .number, number-few p s call k r)
+    go (out.turned-down k r t) = omega (arith, t .number, number-few p s call k r)
     go (out.accepted n d) = omega (arith, does-number p call (outcomeOf p call) d)
 
 pub never-unsound : (n : ℕ) → Model n → (calls : List Call) (call : Call) → numberOf (outcomeOf (after (freshPump n) calls) call) ≡ 4 → ⊥

@@ -13,7 +13,7 @@ use borrow.Author.Tests.{leb-true, le-leb, eqb-true, not-true}
 use Rattle.base.proofs.Choices.{and-left, and-right, and-false, false-true, within}
 use Rattle.base.proofs.Each.{and-both, either}
 use Rattle.decimal.proofs.Theorems.{writable-iff}
-use Rattle.drive.specs.Syringe.{inFemtolitres, target}
+use Rattle.drive.specs.Syringe.{volumeInFl, stepTarget}
 use Rattle.drive.specs.declared.syringe.Syringe.{Syringe}
 use Rattle.drive.proofs.Theorems.{usable-iff}
 use Rattle.words.specs.Functions.{fits, isRatePhase, isWait}
@@ -31,8 +31,8 @@ use Rattle.program.specs.declared.state.Mode.the-variants.{Stopped, Paused, Run
 use Rattle.program.specs.declared.state.Pending.{Pending}
 use Rattle.program.specs.declared.state.Run.{Run}
 use Rattle.program.proofs.Parts.{phase-clauses, phase-sound, visit-clauses, visit-sound, idle-clauses, idle-sound}
-use Rattle.line.specs.Characters.{standing}
-use Rattle.line.specs.Lines.{text, allStanding, isSoundLine}
+use Rattle.line.specs.Characters.{canStand}
+use Rattle.line.specs.Lines.{lineText, allStand, isSoundLine}
 use Rattle.line.specs.declared.lines.Line.{Line}
 use Rattle.line.proofs.Characters.{dropped-low, not-dropped, lower, below-lower, above-lower, stands, falls-dropped, falls-delete}
 use Rattle.pump.specs.Holder.{stopPhase, isSoundPhases}
@@ -135,8 +135,8 @@ usable-rate d NoRate = ((λ h. false-true h), (λ u. absurd u))
 usable-rate d (Current unit r) = usable-iff d r unit
 
 -- no volume has no target
-no-target : (d : Syringe) (volume : ℕ) → volume ≡ 0 → target d volume ≡ 0
-unfolding target inFemtolitres
+no-target : (d : Syringe) (volume : ℕ) → volume ≡ 0 → stepTarget d volume ≡ 0
+unfolding stepTarget volumeInFl
 no-target d volume e = rw e (simp (zero-mul, zero-div))
 
 module _ (d : Syringe) (here : Phase) (rate : Rate) (v : Visit) where
@@ -168,11 +168,11 @@ module _ (d : Syringe) (here : Phase) (rate : Rate) (v : Visit) where
 
 -- ---- the characters of a line
 module _ (c : ℕ) where
-  falls-lower : 97 ≤ c → c ≤ 122 → false ≡ standing c
-  unfolding standing
+  falls-lower : 97 ≤ c → c ≤ 122 → false ≡ canStand c
+  unfolding canStand
   falls-lower l h = simp (lower c l (omega arith), and-false)
 
-  character : standing c ≡ true → Character c
+  character : canStand c ≡ true → Character c
   character h =
       record {
         above-blank = ⊎-elim (λ k. false-true (falls-dropped c (dropped-low c (omega arith)) ∙ h)) (λ k. k) (within c 32);
@@ -180,23 +180,23 @@ module _ (c : ℕ) where
         no-lower = λ l. ⊎-elim (λ k. false-true (falls-lower l k ∙ h)) (λ k. k) (within c 122);
       }
 
-  character-test : Character c → standing c ≡ true
+  character-test : Character c → canStand c ≡ true
   character-test k =
       sym
       (stands c (not-dropped c (k .above-blank) (k .no-delete))
       (⊎-elim (λ l. above-lower c (k .no-lower l)) (below-lower c) (within 97 c)))
 
-each-character : (s : List ℕ) → allStanding s ≡ true → (i : ℕ) → i < length s → Character (getD s i 0)
-unfolding allStanding
+each-character : (s : List ℕ) → allStand s ≡ true → (i : ℕ) → i < length s → Character (getD s i 0)
+unfolding allStand
 each-character [] h i k = absurd (omega arith)
-each-character (c ∷ s) h zero k = character c (and-left (standing c) (allStanding s) h)
-each-character (c ∷ s) h (suc i) k = each-character s (and-right (standing c) (allStanding s) h) i (omega arith)
+each-character (c ∷ s) h zero k = character c (and-left (canStand c) (allStand s) h)
+each-character (c ∷ s) h (suc i) k = each-character s (and-right (canStand c) (allStand s) h) i (omega arith)
 
-characters-test : (s : List ℕ) → ((i : ℕ) → i < length s → Character (getD s i 0)) → allStanding s ≡ true
-unfolding allStanding
+characters-test : (s : List ℕ) → ((i : ℕ) → i < length s → Character (getD s i 0)) → allStand s ≡ true
+unfolding allStand
 characters-test [] h = refl
 characters-test (c ∷ s) h =
-    and-both (standing c) (allStanding s) (character-test c (h 0 (omega arith))) (characters-test s (λ i k. h (suc i) (omega arith)))
+    and-both (canStand c) (allStand s) (character-test c (h 0 (omega arith))) (characters-test s (λ i k. h (suc i) (omega arith)))
 
 -- ---- the line
 module _ (l : Line) where
@@ -206,22 +206,22 @@ module _ (l : Line) where
   pub line-facts : isSoundLine l ≡ true → LineFacts l
   unfolding isSoundLine
   line-facts h =
-      let k = and-left lens (allStanding (text l)) h in
+      let k = and-left lens (allStand (lineText l)) h in
       record {
         forty = leb-true _ _ (and-left (leb (l .len) 40) (not (l .overlong) || leb 40 (l .len)) k);
         overlong-full =
             λ o.
             either (not (l .overlong)) (leb 40 (l .len)) (λ e. false-true (sym (not-true (l .overlong) e) ∙ o)) (leb-true 40 (l .len))
             (and-right (leb (l .len) 40) (not (l .overlong) || leb 40 (l .len)) k);
-        characters = each-character (text l) (and-right lens (allStanding (text l)) h);
+        characters = each-character (lineText l) (and-right lens (allStand (lineText l)) h);
       }
 
   pub line-test : LineFacts l → isSoundLine l ≡ true
   unfolding isSoundLine
   line-test k =
-      and-both lens (allStanding (text l))
+      and-both lens (allStand (lineText l))
       (and-both (leb (l .len) 40) (not (l .overlong) || leb 40 (l .len)) (le-leb _ _ (k .forty)) (full (l .overlong) refl))
-      (characters-test (text l) (k .characters))
+      (characters-test (lineText l) (k .characters))
     where
       full : (t : Bool) → l .overlong ≡ t → (not t || leb 40 (l .len)) ≡ true
       full true e = le-leb 40 (l .len) (k .overlong-full e)

@@ -3,19 +3,15 @@
 use Prim.Native.Nat.{ℕ, zero, suc, _+_, _-_, _≤_}
 use mathlib.Core.Path.{_≡_, refl, sym, ap, _∙_, subst}
 use mathlib.Core.Logic.{inl, inr}
-use mathlib.Core.Bool.{Bool, true, false}
+use mathlib.Core.Bool.{Bool, true}
 use mathlib.Core.List.{List, [], _++_}
 use native.Mathlib.Omega.{arith}
 use lib.Dec.{eqb}
 use lib.ListN.{length, getD, drop, List·getD-append}
 use lib.Seq.{getD-append-add, getD-drop}
 use borrow.Author.Tests.{le-leb, le-ltb}
-use Rattle.base.specs.If.{if_then_else_}
 use Rattle.words.specs.declared.answers.Said.{Said}
-use Rattle.words.specs.declared.answers.Said.the-variants as said
 use Rattle.program.specs.declared.state.Core.{Core}
-use Rattle.line.specs.Lines.{afterByte}
-use Rattle.line.specs.declared.lines.Arrived.{Arrived}
 use Rattle.answer.specs.Answers.{answerOf, lengthIn, bufferAfter}
 use Rattle.answer.proofs.Theorems.{length-kept}
 use Rattle.pump.specs.Calls.{ticked, levelled, pinCall, hear, answered, answeredBuffer, byteReport, byteBuffer}
@@ -26,8 +22,8 @@ use Rattle.pump.specs.declared.holder.Pump.{Pump}
 use Rattle.pump.proofs.Kept.{sound-tick}
 use Rattle.statement.specs.Facts.{coreOf}
 use Rattle.statement.specs.Histories.{Call, byteIn, pinAt, tickIn}
-use Rattle.statement.specs.Outcomes.{outcomeOf, Pin, Still, Written, Ticked, Level, low, high, Edge, two, four, six}
-use Rattle.statement.specs.Outcomes.{Levelled, Heard, Does, withCore, quiet}
+use Rattle.statement.specs.Outcomes.{outcomeOf, Pin, Still, Written, TickDone, Level, low, high, Edge, two, four, six}
+use Rattle.statement.specs.Outcomes.{Levelled, ByteHeard, Does, pumpWithCore}
 use Rattle.statement.proofs.Hearing.{heard, hears}
 use Rattle.statement.proofs.Refusals.{Fine, pin-test}
 
@@ -35,10 +31,10 @@ still : (q : Pump) (n : ℕ) (buffer : List ℕ) → Still q (record { report = 
 still q n buffer = record { taken = refl; new-state = refl; none-infused = refl; none-withdrawn = refl; no-beep = refl; level = refl }
 
 -- ---- a tick
-tick-does : (p : Pump) → isSoundPump p ≡ true → Ticked p (outcomeOf p tickIn)
-tick-does p e = subst (λ r. Ticked p (record { report = r; buffer = [] })) (sym (sound-tick p e)) done
+tick-does : (p : Pump) → isSoundPump p ≡ true → TickDone p (outcomeOf p tickIn)
+tick-does p e = subst (λ r. TickDone p (record { report = r; buffer = [] })) (sym (sound-tick p e)) done
   where
-    done : Ticked p (record { report = ticked p; buffer = [] })
+    done : TickDone p (record { report = ticked p; buffer = [] })
     done =
         record {
           taken = refl;
@@ -66,7 +62,7 @@ module _ (p : Pump) (pin level : ℕ) (k : Pin pin) (h : level ≤ 1) where
   abbrev core : Core
   core = edgeOf (coreOf p) pin (eqb level 1)
 
-  pin-taken : isSoundPump p ≡ true → pinCall p pin level ≡ reported (withCore p core) 0
+  pin-taken : isSoundPump p ≡ true → pinCall p pin level ≡ reported (pumpWithCore p core) 0
   unfolding pinCall levelled edge
   pin-taken e = rw (e, pin-test pin k, le-ltb 1 level h) refl
 
@@ -78,7 +74,7 @@ module _ (p : Pump) (pin level : ℕ) (k : Pin pin) (h : level ≤ 1) where
         core = core;
         at-level = level-of level h;
         edge = edge-at (coreOf p) (eqb level 1) pin k;
-        still = still (withCore p core) 0 [];
+        still = still (pumpWithCore p core) 0 [];
         silent = record { no-answer = refl; same-buffer = refl };
       })
 
@@ -120,10 +116,10 @@ module _ (before : List ℕ) (h : 24 ≤ length before) where
     unfolding byteBuffer hear
     buffer-heard = simp (e, le-ltb (length before) 24 h) refl
 
-    byte-does : Heard p b before (outcomeOf p (byteIn b before))
+    byte-does : ByteHeard p b before (outcomeOf p (byteIn b before))
     byte-does =
         let l = heard p b in
-        subst (Heard p b before) (sym (λ i. record { report = report-heard i; buffer = buffer-heard i }))
+        subst (ByteHeard p b before) (sym (λ i. record { report = report-heard i; buffer = buffer-heard i }))
         (record {
           said = l;
           hears = hears p b;

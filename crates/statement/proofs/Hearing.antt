@@ -14,7 +14,6 @@ use Rattle.line.specs.Characters.{isReturn, isDropped, arrivalOf, raised}
 use Rattle.line.specs.Lines.{emptyLine, afterArrival, afterByte, addressIn, commandIn}
 use Rattle.line.specs.declared.arriving.Arrival.{Arrival}
 use Rattle.line.specs.declared.arriving.Arrival.the-variants.{Dropped, Kept}
-use Rattle.line.specs.declared.lines.Arrived.{Arrived}
 use Rattle.line.specs.declared.lines.Line.{Line}
 use Rattle.pump.specs.Calls.{listenedTo, afterLine, heardBy}
 use Rattle.pump.specs.Device as device
@@ -22,8 +21,8 @@ use Rattle.pump.specs.Holder.{phaseCount, phaseAt}
 use Rattle.pump.specs.declared.calls.Listened.{Listened}
 use Rattle.pump.specs.declared.holder.Pump.{Pump}
 use Rattle.statement.specs.Facts.{coreOf, runOf}
-use Rattle.statement.specs.Outcomes.{withLine, quiet, emptied, obeyed}
-use Rattle.statement.specs.Outcomes.{Hears, collected, other-address, alarm-pending, reset, obeys}
+use Rattle.statement.specs.Outcomes.{pumpWithLine, quiet, emptied, carriedOut}
+use Rattle.statement.specs.Outcomes.{Hears, collected, other-address, alarm-pending, resets, obeys}
 
 -- ---- the return, and any other byte
 returned : (l : Line) (b : ℕ) → b ≡ 13 → afterByte l b ≡ record { line = l; ended = true }
@@ -57,7 +56,7 @@ module _ (p : Pump) where
   unfolding afterLine device.hearLine
   line-other n = simp (ne-eqb (addressIn line) 0 n)
 
-  ours-obeyed : oursWith NoAlarm ≡ obeyed p (commandIn line)
+  ours-obeyed : oursWith NoAlarm ≡ carriedOut p (commandIn line)
   unfolding device.obeyed
   ours-obeyed = refl
 
@@ -68,10 +67,10 @@ module _ (p : Pump) where
     at-return : b ≡ 13 → heard ≡ afterLine p
     at-return e = ap (heardBy p) (returned line b e)
 
-    at-other : (b ≡ 13 → ⊥) → heard ≡ quiet (withLine p (afterByte line b .line))
+    at-other : (b ≡ 13 → ⊥) → heard ≡ quiet (pumpWithLine p (afterByte line b .line))
     at-other n = rw (not-ended line b n) refl
 
-    at-command : b ≡ 13 → addressIn line ≡ 0 → pending (runOf p) ≡ NoAlarm → heard ≡ obeyed p (commandIn line)
+    at-command : b ≡ 13 → addressIn line ≡ 0 → pending (runOf p) ≡ NoAlarm → heard ≡ carriedOut p (commandIn line)
     at-command e z k = at-return e ∙ line-ours z ∙ ap oursWith k ∙ ours-obeyed
 
     -- ---- whatever the relation lets a byte say is what the definitions say
@@ -79,7 +78,7 @@ module _ (p : Pump) where
     hears-is s (collected n) = sym (at-other n)
     hears-is s (other-address e n) = sym (at-return e ∙ line-other n)
     hears-is s (alarm-pending a e z k) = sym (at-return e ∙ line-ours z ∙ ap oursWith k)
-    hears-is s (reset e z k r) = sym (at-command e z k ∙ ap (obeyed p) r)
+    hears-is s (resets e z k r) = sym (at-command e z k ∙ ap (carriedOut p) r)
     hears-is s (obeys e z k) = sym (at-command e z k)
 
     -- ---- and back

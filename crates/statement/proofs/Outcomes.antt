@@ -24,8 +24,8 @@ use Rattle.pump.specs.declared.reports.Refusal.the-variants.{Accepted, ShortBuf
 use Rattle.statement.specs.Facts.{coreOf}
 use Rattle.statement.specs.Histories.{Call, byteIn, pinAt, tickIn, bufferBefore}
 use Rattle.statement.specs.Outcomes as out
-use Rattle.statement.specs.Outcomes.{Outcome, outcomeOf, numberOf, TurnedDown, Still, Written, Ticked, tickAt}
-use Rattle.statement.specs.Outcomes.{Level, low, high, Edge, two, four, six, withCore, Does, Meets}
+use Rattle.statement.specs.Outcomes.{Outcome, outcomeOf, numberOf, TurnedDown, Still, Written, TickDone, tickAt}
+use Rattle.statement.specs.Outcomes.{Level, low, high, Edge, two, four, six, pumpWithCore, Does, Meets}
 use Rattle.statement.proofs.Hearing.{hears-is}
 use Rattle.statement.proofs.Refusals.{Verdict, turns-down, takes, verdict, refused-down, refused-some}
 use Rattle.statement.proofs.Doing.{does}
@@ -40,7 +40,7 @@ pub call-meets : (p : Pump) (call : Call) → Meets p call (outcomeOf p call)
 call-meets p call = go (verdict p call)
   where
     go : Verdict p call → Meets p call (outcomeOf p call)
-    go (turns-down k r) = out.refused k r (refused-down p call k r)
+    go (turns-down k r) = out.turned-down k r (refused-down p call k r)
     go (takes e f) =
         let d = does p call e f in
         out.accepted
@@ -101,11 +101,11 @@ module _ (y z : Outcome) where
       (both (a .none-withdrawn) (b .none-withdrawn)) (both (a .no-beep) (b .no-beep)) (both (a .taken) (b .taken))
       (both (a .level) (b .level)) h
 
-  beeps-same : (p : Pump) → Ticked p y → Ticked p z → (t : Bool) → tickAt p .beep ≡ t → y .report .beeps ≡ z .report .beeps
+  beeps-same : (p : Pump) → TickDone p y → TickDone p z → (t : Bool) → tickAt p .beep ≡ t → y .report .beeps ≡ z .report .beeps
   beeps-same p a b true e = both (a .one-beep e) (b .one-beep e)
   beeps-same p a b false e = both (a .no-beep e) (b .no-beep e)
 
-  ticked-unique : (p : Pump) → Ticked p y → Ticked p z → y ≡ z
+  ticked-unique : (p : Pump) → TickDone p y → TickDone p z → y ≡ z
   ticked-unique p a b =
       same-outcome y z (both (a .new-state) (b .new-state)) (both (a .silent .no-answer) (b .silent .no-answer))
       (both (a .infused) (b .infused)) (both (a .withdrawn) (b .withdrawn)) (beeps-same p a b (tickAt p .beep) refl)
@@ -145,16 +145,16 @@ does-unique p (byteIn b buffer) y z a k =
     (both (a .written .whole) (w .whole)) (written-unique y z _ buffer (a .written) w)
 does-unique p (pinAt pin level) y z a b =
     let same = levelled-is p pin level z b ∙ sym (levelled-is p pin level y a) in
-    still-unique y z (withCore p (a .core)) (a .still) (subst (λ s. Still (withCore p s) z) same (b .still))
+    still-unique y z (pumpWithCore p (a .core)) (a .still) (subst (λ s. Still (pumpWithCore p s) z) same (b .still))
     (both (a .silent .no-answer) (b .silent .no-answer)) (both (a .silent .same-buffer) (b .silent .same-buffer))
 does-unique p tickIn y z a b = ticked-unique y z p a b
 
 pub outcome-unique : (p : Pump) (call : Call) (y z : Outcome) → Meets p call y → Meets p call z → y ≡ z
-outcome-unique p call y z (out.refused k r a) (out.refused j q b) =
+outcome-unique p call y z (out.turned-down k r a) (out.turned-down j q b) =
     turned-unique y z p k (bufferBefore call) a
     (subst (λ n. TurnedDown p n (bufferBefore call) z) (sym (refused-down p call j q .number) ∙ refused-down p call k r .number) b)
-outcome-unique p call y z (out.refused k r a) (out.accepted n b) = absurd (n k r)
-outcome-unique p call y z (out.accepted n a) (out.refused j q b) = absurd (n j q)
+outcome-unique p call y z (out.turned-down k r a) (out.accepted n b) = absurd (n k r)
+outcome-unique p call y z (out.accepted n a) (out.turned-down j q b) = absurd (n j q)
 outcome-unique p call y z (out.accepted n a) (out.accepted m b) = does-unique p call y z a b
 
 -- so the relation is the graph of the calls

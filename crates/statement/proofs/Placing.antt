@@ -1,21 +1,20 @@
 -- The phases of a pump as a table, and another phase put in its place: what stands at each number, and that every phase is sound.
 -- Assumes nothing.
-use Prim.Native.Nat.{ℕ, zero, suc, _+_, _-_, _≤_}
+use Prim.Native.Nat.{ℕ, zero, suc, _-_, _≤_}
 use mathlib.Core.Path.{_≡_, refl, ap, _∙_}
 use mathlib.Core.Bool.{Bool, true, false}
 use mathlib.Core.List.{List, [], _∷_}
 use native.Mathlib.Omega.{arith}
 use lib.Dec.{eqb}
-use lib.ListN.{length, getD, set, List·getD-eq-default}
+use lib.ListN.{length, getD, set}
 use lib.Seq.{getD-set-same, getD-set-other}
 use borrow.Author.Tests.{eqb-true, eqb-false}
 use Rattle.base.specs.If.{if_then_else_}
 use Rattle.base.proofs.Choices.{and-left, and-right}
 use Rattle.base.proofs.Each.{and-both}
-use Rattle.decimal.specs.Writable.{writable}
 use Rattle.words.specs.Phases.{isSoundPhase}
 use Rattle.words.specs.declared.phases.Phase.{Phase}
-use Rattle.soundness.specs.Kept.{withPhase}
+use Rattle.soundness.specs.Kept.{tableWith}
 use Rattle.pump.specs.Holder.{stopPhase, phaseAt, isSoundPhases}
 
 -- ---- another phase at a number
@@ -23,7 +22,7 @@ pub placed-at :
     (ps : List Phase) (n m : ℕ) (x : Phase)
     → 1 ≤ n
     → n ≤ length ps
-    → phaseAt (set ps (n - 1) x) m ≡ withPhase (phaseAt ps) n x m
+    → phaseAt (set ps (n - 1) x) m ≡ tableWith (phaseAt ps) n x m
 unfolding phaseAt
 placed-at ps zero m x least most = absurd (omega arith)
 placed-at ps (suc k) m x least most = let e : suc k - 1 ≡ k = omega arith in rw e (go (eqb m (suc k)) refl)

@@ -6,7 +6,7 @@ use mathlib.Core.Path.{_≡_, refl, sym, ap, _∙_}
 use mathlib.Core.Logic.{_↔_}
 use mathlib.Core.Bool.{true}
 use Rattle.decimal.proofs.Theorems.{writable-iff}
-use Rattle.drive.specs.Syringe.{diameter}
+use Rattle.drive.specs.Syringe.{isDiameter}
 use Rattle.drive.specs.declared.directions.Direction.the-variants.{Infuse, Withdraw}
 use Rattle.words.specs.Functions.{isWait, pauseTicks}
 use Rattle.loops.proofs.Soundness.{count-le, loop-bounded, loops-differ, sound-of}
@@ -24,8 +24,8 @@ use Rattle.statement.proofs.Clauses as clauses
 use Rattle.statement.proofs.Clauses.{between}
 
 -- ---- from the test to the facts
-diameter-facts : (d : ℕ) → (diameter d ≡ true) ↔ Between 100 d 50_000
-unfolding diameter
+diameter-facts : (d : ℕ) → (isDiameter d ≡ true) ↔ Between 100 d 50_000
+unfolding isDiameter
 diameter-facts d = between 100 d 50_000
 
 module _ (p : Pump) (e : isSoundPump p ≡ true) where

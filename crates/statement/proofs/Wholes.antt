@@ -1,38 +1,37 @@
 -- A state at power-up is whole; a whole state with another core, line or phase.
 -- Assumes nothing.
-use Prim.Native.Nat.{ℕ, zero, suc, _≤_}
+use Prim.Native.Nat.{ℕ, zero, suc}
 use mathlib.Core.Path.{_≡_, refl, sym, ap, _∙_, subst}
 use mathlib.Core.Bool.{true}
 use mathlib.Core.List.{List}
 use lib.ListN.{length, replicate}
 use Rattle.base.proofs.Each.{and-both}
-use Rattle.decimal.specs.Writable.{writable}
+use Rattle.decimal.specs.Writable.{isWritable}
 use Rattle.words.specs.Phases.{powerUp, isSoundPhase}
 use Rattle.words.specs.declared.phases.Phase.{Phase}
 use Rattle.program.specs.declared.state.Core.{Core}
-use Rattle.program.specs.Sound.{Table, isSoundCore}
+use Rattle.program.specs.Sound.{isSoundCore}
 use Rattle.soundness.specs.Kept.{Kept}
-use Rattle.soundness.proofs.Ticks.{kept-tick}
 use Rattle.soundness.proofs.Cores.{power-up-sound}
 use Rattle.line.specs.Lines.{isSoundLine}
 use Rattle.line.specs.declared.lines.Line.{Line}
 use Rattle.line.proofs.Theorems.{empty-sound}
-use Rattle.pump.specs.Holder.{phaseCount, phaseAt, withPhases, freshPhases, freshPump, isSoundPhases, isSoundPump}
+use Rattle.pump.specs.Holder.{phaseCount, phaseAt, withPhases, freshPhases, freshPump, isSoundPhases}
 use Rattle.pump.specs.declared.holder.Pump.{Pump}
 use Rattle.pump.proofs.Renewing.{fresh-count}
 use Rattle.pump.proofs.Kept.{pump-phases, pump-core, pump-line, pump-sound, core-sound}
 use Rattle.statement.specs.Histories.{Model, Whole}
-use Rattle.statement.specs.Outcomes.{withCore, withLine}
+use Rattle.statement.specs.Outcomes.{pumpWithCore, pumpWithLine}
 use Rattle.statement.proofs.Placing.{placed-sound}
 
 -- ---- the phases at power-up, whatever their number
 module _ (phases : ℕ) where
   first-sound : isSoundPhase phases (powerUp 1) ≡ true
-  unfolding isSoundPhase writable powerUp
+  unfolding isSoundPhase isWritable powerUp
   first-sound = refl
 
   other-sound : isSoundPhase phases (powerUp 2) ≡ true
-  unfolding isSoundPhase writable powerUp
+  unfolding isSoundPhase isWritable powerUp
   other-sound = refl
 
   others-sound : (n : ℕ) → isSoundPhases phases (replicate n (powerUp 2)) ≡ true
@@ -59,15 +58,15 @@ module _ (n : ℕ) (m : Model n) where
 
 -- ---- one part replaced
 module _ (p : Pump) where
-  pub core-whole : Whole p → (s : Core) → Kept (phaseCount p) (phaseAt (p .phases)) s → Whole (withCore p s)
+  pub core-whole : Whole p → (s : Core) → Kept (phaseCount p) (phaseAt (p .phases)) s → Whole (pumpWithCore p s)
   core-whole w s k = record { model = w .model; places = w .places; sound = core-sound p (w .sound) s k }
 
-  pub line-whole : Whole p → (l : Line) → length (l .bytes) ≡ 40 → isSoundLine l ≡ true → Whole (withLine p l)
+  pub line-whole : Whole p → (l : Line) → length (l .bytes) ≡ 40 → isSoundLine l ≡ true → Whole (pumpWithLine p l)
   line-whole w l h e =
       record {
         model = w .model;
         places = h;
-        sound = pump-sound (withLine p l) (pump-phases p (w .sound)) (pump-core p (w .sound)) e;
+        sound = pump-sound (pumpWithLine p l) (pump-phases p (w .sound)) (pump-core p (w .sound)) e;
       }
 
   -- other phases, as many, with a core that is sound among them
@@ -77,13 +76,13 @@ module _ (p : Pump) where
       → length ps ≡ phaseCount p
       → isSoundPhases (phaseCount p) ps ≡ true
       → Kept (phaseCount p) (phaseAt ps) s
-      → Whole (withPhases (withCore p s) ps)
+      → Whole (withPhases (pumpWithCore p s) ps)
   phases-whole ps s w n e k =
       record {
         model = subst Model (sym n) (w .model);
         places = w .places;
         sound =
-            pump-sound (withPhases (withCore p s) ps) (ap (λ c. isSoundPhases c ps) n ∙ e)
+            pump-sound (withPhases (pumpWithCore p s) ps) (ap (λ c. isSoundPhases c ps) n ∙ e)
             (ap (λ c. isSoundCore c s (phaseAt ps (s .run .place .current))) n ∙ k)
             (pump-line p (w .sound));
       }

@@ -8,10 +8,10 @@ use mathlib.Core.Logic.{_⊎_}
 use mathlib.Core.Bool.{true}
 use mathlib.Core.List.{List}
 use lib.ListN.{length, getD}
-use Rattle.decimal.specs.Read.{readOf}
+use Rattle.decimal.specs.Read.{read}
 use Rattle.decimal.specs.declared.input.Reading.the-variants.{Number}
-use Rattle.drive.specs.Rates.{hourly}
-use Rattle.drive.specs.Syringe.{threshold, target}
+use Rattle.drive.specs.Rates.{hourlyRate}
+use Rattle.drive.specs.Syringe.{stepThreshold, stepTarget}
 use Rattle.drive.specs.declared.syringe.Syringe.{Syringe}
 use Rattle.words.specs.Functions.{pauseTicks}
 use Rattle.words.specs.declared.functions.Function.{Function}
@@ -30,7 +30,7 @@ use Rattle.program.specs.declared.state.Run.{Run}
 use Rattle.program.specs.declared.state.Trap.the-variants.{NoTrap, Armed}
 use Rattle.program.specs.declared.state.Work.{Work}
 use Rattle.program.specs.declared.state.Work.the-variants.{Entering, Visiting, Pausing, Waiting}
-use Rattle.line.specs.Lines.{text}
+use Rattle.line.specs.Lines.{lineText}
 use Rattle.line.specs.declared.lines.Line.{Line}
 use Rattle.pump.specs.Holder.{phaseCount, stopPhase, hereOf}
 use Rattle.pump.specs.declared.holder.Pump.{Pump}
@@ -40,7 +40,7 @@ Between least n most = (least ≤ n) × (n ≤ most)
 
 -- a stored number is writable if some input gives it
 abbrev pub Writable : ℕ → Type 0
-Writable x = (s : List ℕ) × (readOf s ≡ Number x)
+Writable x = (s : List ℕ) × (read s ≡ Number x)
 
 -- a function's datum is in its range in a pump of so many phases: a phase from 1 to the last, counts 1 to 99, PAS up to 99 s or 0.1 to
 -- 9.9 s, levels 0 and 1
@@ -76,7 +76,7 @@ pub record Character (c : ℕ) : Type 0 where
 pub record LineFacts (l : Line) : Type 0 where
   pub forty : l .len ≤ 40
   pub overlong-full : l .overlong ≡ true → 40 ≤ l .len
-  pub characters : (i : ℕ) → i < length (text l) → Character (getD (text l) i 0)
+  pub characters : (i : ℕ) → i < length (lineText l) → Character (getD (lineText l) i 0)
 
 -- ---- where things stand
 abbrev pub coreOf : Pump → Core
@@ -108,11 +108,11 @@ pub record Ranges (p : Pump) : Type 0 where
 -- above 0, and at most four thresholds
 abbrev pub Usable : Syringe → Rate → Type 0
 Usable y NoRate = ⊥
-Usable y (Current unit r) = (0 < r) × (hourly r unit ≤ 4 * threshold y)
+Usable y (Current unit r) = (0 < r) × (hourlyRate r unit ≤ 4 * stepThreshold y)
 
 pub record VisitFacts (y : Syringe) (here : Phase) (rate : Rate) (v : Visit) : Type 0 where
-  pub store-below : v .store < threshold y
-  pub aimed : v .target ≡ target y (here .volume)
+  pub store-below : v .store < stepThreshold y
+  pub aimed : v .target ≡ stepTarget y (here .volume)
   pub given-below : (here .volume ≡ 0 → ⊥) → v .given < v .target
   pub none-counted : here .volume ≡ 0 → v .given ≡ 0
   pub usable : Usable y rate

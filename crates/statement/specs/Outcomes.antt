@@ -17,7 +17,7 @@ use Rattle.program.specs.Runs.{pending, clearAlarm}
 use Rattle.program.specs.Statuses.{inHand}
 use Rattle.program.specs.declared.state.Core.{Core}
 use Rattle.program.specs.declared.state.Pending.the-variants.{NoAlarm, Raised}
-use Rattle.tick.specs.Ticks.{tickOf}
+use Rattle.tick.specs.Ticks.{tick}
 use Rattle.tick.specs.declared.Moved.{Moved}
 use Rattle.command.specs.Obeying.{obey}
 use Rattle.command.specs.declared.obeying.Obeyed.{Obeyed}
@@ -91,19 +91,19 @@ pub record Written (answer before : List ℕ) (o : Outcome) : Type 0 where
   pub other-bytes : (i : ℕ) → length answer ≤ i → i < length before → getD (o .buffer) i 0 ≡ getD before i 0
 
 -- ---- the state with another core, or another line
-abbrev pub withCore : Pump → Core → Pump
-withCore p s = withDevice p (device.withCore (p .device) s)
+abbrev pub pumpWithCore : Pump → Core → Pump
+pumpWithCore p s = withDevice p (device.withCore (p .device) s)
 
-abbrev pub withLine : Pump → Line → Pump
-withLine p l = withDevice p (device.withLine (p .device) l)
+abbrev pub pumpWithLine : Pump → Line → Pump
+pumpWithLine p l = withDevice p (device.withLine (p .device) l)
 
 -- ---- a tick: the phases and the line stay, and the core does what the rules of the current phase give
 abbrev pub tickAt : Pump → Moved
-tickAt p = tickOf (coreOf p) (hereOf p)
+tickAt p = tick (coreOf p) (hereOf p)
 
-pub record Ticked (p : Pump) (o : Outcome) : Type 0 where
+pub record TickDone (p : Pump) (o : Outcome) : Type 0 where
   pub taken : numberOf o ≡ 0
-  pub new-state : o .report .pump ≡ withCore p (tickAt p .core)
+  pub new-state : o .report .pump ≡ pumpWithCore p (tickAt p .core)
   pub infused : o .report .infused ≡ tickAt p .infused
   pub withdrawn : o .report .withdrawn ≡ tickAt p .withdrawn
   pub one-beep : tickAt p .beep ≡ true → o .report .beeps ≡ 1
@@ -126,7 +126,7 @@ pub record Levelled (p : Pump) (pin level : ℕ) (o : Outcome) : Type 0 where
   pub core : Core
   pub at-level : Level level is-high
   pub edge : Edge (coreOf p) is-high pin core
-  pub still : Still (withCore p core) o
+  pub still : Still (pumpWithCore p core) o
   pub silent : Silent (bufferBefore (pinAt pin level)) o
 
 -- ---- a byte: the checks in their order. Any byte but the return goes into the line. The return ends the line, which is emptied: another
@@ -135,43 +135,43 @@ abbrev pub quiet : Pump → Listened
 quiet q = record { pump = q; said = s.Nothing }
 
 abbrev pub emptied : Pump → Pump
-emptied p = withLine p emptyLine
+emptied p = pumpWithLine p emptyLine
 
 -- a command has the phase in hand before it, the function of the phase one number higher, and the number of phases
 abbrev pub obeying : Pump → Command → Obeyed
 obeying p command =
     obey (coreOf p) (phaseAt (p .phases) (inHand (coreOf p))) (phaseAt (p .phases) (inHand (coreOf p) + 1) .function) (phaseCount p) command
 
-abbrev pub obeyed : Pump → Command → Listened
-obeyed p command =
-    saying (edited (withCore (emptied p) (obeying p command .core)) (inHand (coreOf p)) (obeying p command .edit))
+abbrev pub carriedOut : Pump → Command → Listened
+carriedOut p command =
+    saying (edited (pumpWithCore (emptied p) (obeying p command .core)) (inHand (coreOf p)) (obeying p command .edit))
     (told.Reply (obeying p command .reply))
 
 -- *RESET is a command like others; its case is told apart so that its effect is seen here: all phases as at power-up, and the core too
 pub data Hears (p : Pump) (b : ℕ) : Listened → Type 0 where
-  collected : (b ≡ 13 → ⊥) → Hears p b (quiet (withLine p (afterByte (p .device .line) b .line)))
+  collected : (b ≡ 13 → ⊥) → Hears p b (quiet (pumpWithLine p (afterByte (p .device .line) b .line)))
   other-address : b ≡ 13 → (addressIn (p .device .line) ≡ 0 → ⊥) → Hears p b (quiet (emptied p))
   alarm-pending :
       (a : Alarm)
       → b ≡ 13
       → addressIn (p .device .line) ≡ 0
       → pending (runOf p) ≡ Raised a
-      → Hears p b (saying (withCore (emptied p) (withRun (coreOf p) (clearAlarm (runOf p)))) (told.Alarm a))
-  reset :
+      → Hears p b (saying (pumpWithCore (emptied p) (withRun (coreOf p) (clearAlarm (runOf p)))) (told.Alarm a))
+  resets :
       b ≡ 13
       → addressIn (p .device .line) ≡ 0
       → pending (runOf p) ≡ NoAlarm
       → commandIn (p .device .line) ≡ c.Reset
       → Hears p b
-      (saying (withPhases (withCore (emptied p) (resetCore (coreOf p))) (freshPhases (phaseCount p))) (told.Reply reply.Status))
+      (saying (withPhases (pumpWithCore (emptied p) (resetCore (coreOf p))) (freshPhases (phaseCount p))) (told.Reply reply.Status))
   obeys :
       b ≡ 13
       → addressIn (p .device .line) ≡ 0
       → pending (runOf p) ≡ NoAlarm
-      → Hears p b (obeyed p (commandIn (p .device .line)))
+      → Hears p b (carriedOut p (commandIn (p .device .line)))
 
 -- the answer bears our address, 0; where nothing is said it has no byte
-pub record Heard (p : Pump) (b : ℕ) (before : List ℕ) (o : Outcome) : Type 0 where
+pub record ByteHeard (p : Pump) (b : ℕ) (before : List ℕ) (o : Outcome) : Type 0 where
   pub said : Listened
   pub hears : Hears p b said
   pub still : Still (said .pump) o
@@ -179,10 +179,10 @@ pub record Heard (p : Pump) (b : ℕ) (before : List ℕ) (o : Outcome) : Type 0
 
 -- ---- the whole
 abbrev pub Does : Pump → Call → Outcome → Type 0
-Does p (byteIn b buffer) o = Heard p b buffer o
+Does p (byteIn b buffer) o = ByteHeard p b buffer o
 Does p (pinAt pin level) o = Levelled p pin level o
-Does p tickIn o = Ticked p o
+Does p tickIn o = TickDone p o
 
 pub data Meets (p : Pump) (call : Call) (o : Outcome) : Type 0 where
-  refused : (k : ℕ) → RefusedAs p call k → TurnedDown p k (bufferBefore call) o → Meets p call o
+  turned-down : (k : ℕ) → RefusedAs p call k → TurnedDown p k (bufferBefore call) o → Meets p call o
   accepted : ((k : ℕ) → RefusedAs p call k → ⊥) → Does p call o → Meets p call o

@@ -4,10 +4,10 @@
 // Nothing checks the declarations on the side of C, so only numbers and slices of bytes pass. A slice is two arguments
 // there, a pointer and a length.
 ghost use mathlib.Core.Path.{_≡_};
-ghost use Rattle.decimal.specs.Print.{printed, tenthsPrinted, twoDigits};
-ghost use Rattle.decimal.specs.Read.{readOf};
-ghost use Rattle.decimal.specs.Short.{oneOf, tenthsOf, twoOf};
-ghost use Rattle.decimal.specs.Writable.{writable};
+ghost use Rattle.decimal.specs.Print.{print, printTenths, printTwo};
+ghost use Rattle.decimal.specs.Read.{read};
+ghost use Rattle.decimal.specs.Short.{readOne, readTenths, readTwo};
+ghost use Rattle.decimal.specs.Writable.{isWritable};
 ghost use Rattle.test_numbers.specs.Face.{readingAs, shortAs, testAs, countOf, bufferOf};
 use decimal::Reading;
 use decimal::Short;
@@ -21,7 +21,7 @@ const NO_DIGITS: u32 = 256;
 // `s` as a number of thousandths.
 #[no_mangle]
 pub extern "C" fn test_read(s: &[u8]) -> u64
-    ensures { λ r. ⌜ r ≡ readingAs (readOf (now (s .entry))) ⌝ }
+    ensures { λ r. ⌜ r ≡ readingAs (read (now (s .entry))) ⌝ }
 {
     match decimal::read(s) {
         Reading::Number(x) => x as u64,
@@ -32,7 +32,7 @@ pub extern "C" fn test_read(s: &[u8]) -> u64
 // `s` as one digit.
 #[no_mangle]
 pub extern "C" fn test_read_one(s: &[u8]) -> u32
-    ensures { λ r. ⌜ r ≡ shortAs (oneOf (now (s .entry))) ⌝ }
+    ensures { λ r. ⌜ r ≡ shortAs (readOne (now (s .entry))) ⌝ }
 {
     short_as(decimal::read_one(s))
 }
@@ -40,7 +40,7 @@ pub extern "C" fn test_read_one(s: &[u8]) -> u32
 // `s` as one or two digits.
 #[no_mangle]
 pub extern "C" fn test_read_two(s: &[u8]) -> u32
-    ensures { λ r. ⌜ r ≡ shortAs (twoOf (now (s .entry))) ⌝ }
+    ensures { λ r. ⌜ r ≡ shortAs (readTwo (now (s .entry))) ⌝ }
 {
     short_as(decimal::read_two(s))
 }
@@ -48,7 +48,7 @@ pub extern "C" fn test_read_two(s: &[u8]) -> u32
 // `s` as tenths.
 #[no_mangle]
 pub extern "C" fn test_read_tenths(s: &[u8]) -> u32
-    ensures { λ r. ⌜ r ≡ shortAs (tenthsOf (now (s .entry))) ⌝ }
+    ensures { λ r. ⌜ r ≡ shortAs (readTenths (now (s .entry))) ⌝ }
 {
     short_as(decimal::read_tenths(s))
 }
@@ -56,7 +56,7 @@ pub extern "C" fn test_read_tenths(s: &[u8]) -> u32
 // 1 if some input gives `x` thousandths, else 0.
 #[no_mangle]
 pub extern "C" fn test_is_writable(x: u32) -> u32
-    ensures { λ r. ⌜ r ≡ testAs (writable x) ⌝ }
+    ensures { λ r. ⌜ r ≡ testAs (isWritable x) ⌝ }
 {
     if decimal::is_writable(x) { 1 } else { 0 }
 }
@@ -64,8 +64,8 @@ pub extern "C" fn test_is_writable(x: u32) -> u32
 // `x` thousandths, printed into `out`.
 #[no_mangle]
 pub extern "C" fn test_print(x: u32, out: &mut [u8]) -> usize
-    ensures count { λ r. ⌜ r ≡ countOf (printed x) (now (out .entry)) ⌝ }
-    ensures buffer { λ _. ⌜ now (out .exit) ≡ bufferOf (printed x) (now (out .entry)) ⌝ }
+    ensures count { λ r. ⌜ r ≡ countOf (print x) (now (out .entry)) ⌝ }
+    ensures buffer { λ _. ⌜ now (out .exit) ≡ bufferOf (print x) (now (out .entry)) ⌝ }
 {
     let text = decimal::print(x);
     hand(&text, out)
@@ -74,8 +74,8 @@ pub extern "C" fn test_print(x: u32, out: &mut [u8]) -> usize
 // `n` as two digits, printed into `out`.
 #[no_mangle]
 pub extern "C" fn test_print_two(n: u8, out: &mut [u8]) -> usize
-    ensures count { λ r. ⌜ r ≡ countOf (twoDigits n) (now (out .entry)) ⌝ }
-    ensures buffer { λ _. ⌜ now (out .exit) ≡ bufferOf (twoDigits n) (now (out .entry)) ⌝ }
+    ensures count { λ r. ⌜ r ≡ countOf (printTwo n) (now (out .entry)) ⌝ }
+    ensures buffer { λ _. ⌜ now (out .exit) ≡ bufferOf (printTwo n) (now (out .entry)) ⌝ }
 {
     let text = decimal::print_two(n);
     hand(&text, out)
@@ -84,8 +84,8 @@ pub extern "C" fn test_print_two(n: u8, out: &mut [u8]) -> usize
 // `n` tenths, printed into `out`.
 #[no_mangle]
 pub extern "C" fn test_print_tenths(n: u8, out: &mut [u8]) -> usize
-    ensures count { λ r. ⌜ r ≡ countOf (tenthsPrinted n) (now (out .entry)) ⌝ }
-    ensures buffer { λ _. ⌜ now (out .exit) ≡ bufferOf (tenthsPrinted n) (now (out .entry)) ⌝ }
+    ensures count { λ r. ⌜ r ≡ countOf (printTenths n) (now (out .entry)) ⌝ }
+    ensures buffer { λ _. ⌜ now (out .exit) ≡ bufferOf (printTenths n) (now (out .entry)) ⌝ }
 {
     let text = decimal::print_tenths(n);
     hand(&text, out)

@@ -15,11 +15,11 @@ pub fn line(s: &[u8]) {
     while i < s.len() {
         let b = s[i];
         i += 1;
-        let next = line.after(b);
+        let next = line.after_byte(b);
         line = next.line;
     }
-    if line.address() == 0 {
-        reply(echo(line.command()));
+    if line.address_in() == 0 {
+        reply(echo(line.command_in()));
     }
 }
 

@@ -7,7 +7,7 @@ use native.Mathlib.Omega.{arith}
 use lib.Dec.{leb}
 use borrow.Author.Tests.{leb-true}
 use Rattle.base.proofs.Choices.{and-right}
-use Rattle.drive.specs.Syringe.{diameter, leastDiameter, mostDiameter}
+use Rattle.drive.specs.Syringe.{isDiameter, leastDiameter, mostDiameter}
 use Rattle.drive.specs.declared.rates.RateUnit.{RateUnit}
 use Rattle.drive.proofs.Bounds.{threshold-le}
 use Rattle.drive.proofs.Theorems.{usable-iff}
@@ -46,7 +46,7 @@ module _ (s : Core) (p : Phase) (ready : Ready s p) where
       }
 
   diameter-le : s .syringe .diameter ≤ mostDiameter
-  unfolding diameter
+  unfolding isDiameter
   diameter-le =
       leb-true _ _ (and-right (leb leastDiameter (s .syringe .diameter)) (leb (s .syringe .diameter) mostDiameter) (core .in-range))
 
@@ -61,7 +61,7 @@ module _ (s : Core) (p : Phase) (ready : Ready s p) where
             λ (x : ℕ) (unit : RateUnit) (f : s .run .rate ≡ Current unit x).
             record {
               high = diameter-le;
-              here = ready-current;
+              current-few = ready-current;
               total = ledger-clauses (s .ledger) (core .ledger-sound) (p .direction);
               works =
                   record {

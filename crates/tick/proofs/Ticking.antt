@@ -19,7 +19,7 @@ use Rattle.program.specs.declared.state.Run.{Run}
 use Rattle.program.specs.declared.state.Work.{Work}
 use Rattle.program.specs.declared.state.Work.the-variants.{Visiting, Pausing}
 use Rattle.tick.specs.Entering.{enterPause, enterBy, enter}
-use Rattle.tick.specs.Ticks.{silent, worked, workBy, tickBy, tickOf}
+use Rattle.tick.specs.Ticks.{silent, worked, workBy, tickBy, tick}
 use Rattle.tick.specs.Working.{workVisit, workPause}
 use Rattle.tick.specs.declared.Moved.{Moved}
 use Rattle.tick.specs.declared.working.Given.{Given}
@@ -53,12 +53,12 @@ module _ (s : Core) (p : Phase) where
   runs Running h = refl
 
   module _ (x : Moved) where
-    pub ticks-off : isOperating (s .run) ≡ false → x ≡ silent s → x ≡ tickOf s p
-    unfolding tickOf
+    pub ticks-off : isOperating (s .run) ≡ false → x ≡ silent s → x ≡ tick s p
+    unfolding tick
     ticks-off h q = q ∙ still (s .run .mode) h
 
-    pub ticks-on : (w : Work) → isOperating (s .run) ≡ true → s .run .place .work ≡ w → x ≡ workBy s p w → x ≡ tickOf s p
-    unfolding tickOf
+    pub ticks-on : (w : Work) → isOperating (s .run) ≡ true → s .run .place .work ≡ w → x ≡ workBy s p w → x ≡ tick s p
+    unfolding tick
     ticks-on w h k q = q ∙ ap (workBy s p) (sym k) ∙ runs (s .run .mode) h
 
     pub ticks-visit :
@@ -67,7 +67,7 @@ module _ (s : Core) (p : Phase) where
         → s .run .place .work ≡ Visiting v
         → g ≡ workVisit (s .run) (s .ledger) (s .syringe) (p .direction) v
         → x ≡ worked s (p .direction) g
-        → x ≡ tickOf s p
+        → x ≡ tick s p
     ticks-visit v g h k e q = ticks-on (Visiting v) h k (q ∙ ap (worked s (p .direction)) e)
 
     pub ticks-pause :
@@ -77,5 +77,5 @@ module _ (s : Core) (p : Phase) where
         → r ≡ workPause (s .run) left
         → t ≡ withRun s r
         → x ≡ silent t
-        → x ≡ tickOf s p
+        → x ≡ tick s p
     ticks-pause left r t h k e f q = ticks-on (Pausing left) h k (q ∙ ap silent (f ∙ ap (withRun s) e))

@@ -7,7 +7,7 @@ use native.Mathlib.Nat.{mul-le-mul}
 use native.Mathlib.Omega.{arith}
 use lib.Dec.{ltb, eqb}
 use borrow.Author.Tests.{le-leb, lt-leb}
-use Rattle.drive.specs.Syringe.{mostDiameter, stepVolume, threshold, target}
+use Rattle.drive.specs.Syringe.{mostDiameter, stepVolume, stepThreshold, stepTarget}
 use Rattle.drive.specs.declared.directions.Direction.{Direction}
 use Rattle.drive.specs.declared.syringe.Syringe.{Syringe}
 use Rattle.drive.proofs.Bounds.{step-volume-le}
@@ -29,12 +29,12 @@ use Rattle.tick.specs.declared.working.Given.{Given}
 -- ---- a working tick: the worked visit, the step volume and the total as calls gave them
 module _
     (r : Run) (l : Ledger) (d : Syringe) (way : Direction) (v : Visit) (hourly : ℕ) (w : Worked) (limit volume total : ℕ)
-    (limit-is : limit ≡ threshold d) (works : w ≡ work v hourly limit) where
-  pub steps-small : Working v hourly (threshold d) → w .steps ≤ 4
-  steps-small h = rw (works, limit-is) (steps-le v hourly (threshold d) h)
+    (limit-is : limit ≡ stepThreshold d) (works : w ≡ work v hourly limit) where
+  pub steps-small : Working v hourly (stepThreshold d) → w .steps ≤ 4
+  steps-small h = rw (works, limit-is) (steps-le v hourly (stepThreshold d) h)
 
   -- four steps of the largest volume
-  pub dose-small : volume ≡ stepVolume d → d .diameter ≤ mostDiameter → Working v hourly (threshold d) → w .steps * volume ≤ 1_963_500_000
+  pub dose-small : volume ≡ stepVolume d → d .diameter ≤ mostDiameter → Working v hourly (stepThreshold d) → w .steps * volume ≤ 1_963_500_000
   dose-small e h k = rw e (omega (arith, mul-le-mul (steps-small k) (step-volume-le d h)))
 
   module _ (volume-is : volume ≡ stepVolume d) (total-is : total ≡ totalOf l way) where
@@ -57,7 +57,7 @@ module _
     gives-none x h e = rw e (simp (lt-leb _ _ (rw (total-is, volume-is, works, limit-is) at h)))
 
 -- ---- a visit is begun, or ends at entry: a volume too small for a step
-module _ (r x : Run) (d : Syringe) (p : Phase) (t : ℕ) (aimed : t ≡ target d (p .volume)) where
+module _ (r x : Run) (d : Syringe) (p : Phase) (t : ℕ) (aimed : t ≡ stepTarget d (p .volume)) where
   pub ends-at-entry : (ltb 0 (p .volume) && eqb t 0) ≡ true → x ≡ goOn r → x ≡ beginVisit r d p
   unfolding beginVisit
   ends-at-entry h e = e ∙ sym (simp (rw aimed at h))

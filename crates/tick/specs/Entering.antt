@@ -3,7 +3,7 @@ use Prim.Native.Nat.{ℕ, _≤_}
 use mathlib.Core.Bool.{Bool, _&&_}
 use lib.Dec.{ltb, eqb}
 use Rattle.base.specs.If.{if_then_else_}
-use Rattle.drive.specs.Syringe.{target}
+use Rattle.drive.specs.Syringe.{stepTarget}
 use Rattle.drive.specs.declared.syringe.Syringe.{Syringe}
 use Rattle.words.specs.Functions.{pauseTicks}
 use Rattle.words.specs.declared.answers.Alarm.the-variants.{Program}
@@ -26,9 +26,9 @@ use Rattle.program.specs.declared.state.Work.the-variants.{Visiting, Pausing, W
 -- time store 0, the step target from the volume; a volume above 0 with target 0 ends at entry
 unfoldable pub beginVisit : Run → Syringe → Phase → Run
 beginVisit r y p =
-    if ltb 0 (p .volume) && eqb (target y (p .volume)) 0
+    if ltb 0 (p .volume) && eqb (stepTarget y (p .volume)) 0
     then goOn r
-    else doing r (Visiting (record { given = 0; target = target y (p .volume); store = 0 }))
+    else doing r (Visiting (record { given = 0; target = stepTarget y (p .volume); store = 0 }))
 
 -- no rate, or one that is not usable, is alarm E
 unfoldable pub enterRate : Run → Syringe → Phase → Rate → Run

@@ -60,8 +60,8 @@ tickBy s p (Stopped alarm) = silent s
 tickBy s p Paused = silent s
 tickBy s p Running = workBy s p (s .run .place .work)
 
-unfoldable pub tickOf : Core → Phase → Moved
-tickOf s p = tickBy s p (s .run .mode)
+unfoldable pub tick : Core → Phase → Moved
+tick s p = tickBy s p (s .run .mode)
 
 -- ---- what the code of a tick may rely on: it stands in a sound pump of some number of phases
 pub record Ready (s : Core) (here : Phase) : Type 0 where

@@ -9,7 +9,7 @@ mod working;
 
 ghost use mathlib.Core.Path.{_≡_};
 ghost use Rattle.tick.specs.Entering.{Enterable};
-ghost use Rattle.tick.specs.Ticks.{Ready, outputAfter, entered, worked, silent, tickOf};
+ghost use Rattle.tick.specs.Ticks.{Ready, outputAfter, entered, worked, silent, tick};
 use drive::Direction;
 use entering::enter;
 use program::Core;
@@ -31,7 +31,7 @@ pub struct Moved {
 // A tick, with the current phase in hand.
 pub fn tick(core: Core, here: Phase) -> Moved
     requires { ⌜ Ready core here ⌝ }
-    ensures { λ r. ⌜ r ≡ tickOf core here ⌝ }
+    ensures { λ r. ⌜ r ≡ tick core here ⌝ }
 {
     if !core.run.is_operating() {
         return silent(core);

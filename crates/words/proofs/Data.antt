@@ -1,14 +1,13 @@
 -- The quick tests of a function's datum say no more than the rule; the tests of a phase.
 -- Assumes nothing.
-use Prim.Native.Nat.{ℕ, _*_, _≤_}
+use Prim.Native.Nat.{ℕ, _*_}
 use mathlib.Core.Path.{_≡_, refl, sym, _∙_}
-use mathlib.Core.Bool.{Bool, true, false, _&&_, _||_}
-use lib.Dec.{leb, eqb}
+use mathlib.Core.Bool.{Bool, true, false, _&&_}
+use lib.Dec.{leb}
 use borrow.Author.Tests.{eq-eqb, ne-eqb}
-use native.Mathlib.Omega.{arith}
 use Rattle.base.specs.If.{if_then_else_}
 use Rattle.base.proofs.Choices.{and-left, and-right, false-true}
-use Rattle.decimal.specs.Writable.{writable}
+use Rattle.decimal.specs.Writable.{isWritable}
 use Rattle.words.specs.Phases.{isSoundPhase}
 use Rattle.words.specs.declared.phases.Phase.{Phase}
 use Rattle.words.specs.Functions.{number, datum, isOut, takesPhase, takesCount, takesDatum, fits, pauseTicks}
@@ -89,7 +88,7 @@ module _ (g : Function) (n d : ℕ) (a : n ≡ number g) (b : d ≡ datum g) whe
 pub ruleset pauses = (by-seconds, by-tenths, no-pause)
 
 -- ---- a phase's two tests, one after the other
-module _ (phases : ℕ) (p : Phase) (numbers : Bool) (a : numbers ≡ (writable (p .rate) && writable (p .volume))) where
+module _ (phases : ℕ) (p : Phase) (numbers : Bool) (a : numbers ≡ (isWritable (p .rate) && isWritable (p .volume))) where
   pub numbers-unwritable : numbers ≡ false → false ≡ isSoundPhase phases p
   unfolding isSoundPhase
   numbers-unwritable e = sym (simp (sym a ∙ e))

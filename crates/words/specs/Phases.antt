@@ -3,7 +3,7 @@ use Prim.Native.Nat.{ℕ}
 use mathlib.Core.Bool.{Bool, _&&_}
 use lib.Dec.{eqb}
 use Rattle.base.specs.If.{if_then_else_}
-use Rattle.decimal.specs.Writable.{writable}
+use Rattle.decimal.specs.Writable.{isWritable}
 use Rattle.drive.specs.declared.rates.RateUnit.the-variants.{Mh}
 use Rattle.drive.specs.declared.directions.Direction.the-variants.{Infuse}
 use Rattle.words.specs.Functions.{fits}
@@ -21,4 +21,4 @@ powerUp number = if eqb number 1 then idle f.Rat else idle f.Stp
 
 -- the function's datum is in its range, and the stored rate and volume are writable, whatever the function
 unfoldable pub isSoundPhase : ℕ → Phase → Bool
-isSoundPhase phases p = writable (p .rate) && writable (p .volume) && fits phases (p .function)
+isSoundPhase phases p = isWritable (p .rate) && isWritable (p .volume) && fits phases (p .function)

@@ -6,7 +6,7 @@ use mathlib.Core.List.{List, [], _∷_}
 use lib.Dec.{eqb}
 use Rattle.base.specs.If.{if_then_else_}
 use Rattle.base.specs.Text.{text}
-use Rattle.decimal.specs.Print.{digit, twoDigits, tenthsPrinted}
+use Rattle.decimal.specs.Print.{lastDigit, printTwo, printTenths}
 use Rattle.drive.specs.declared.rates.RateUnit.{RateUnit}
 use Rattle.drive.specs.declared.rates.RateUnit.the-variants.{Um, Mm, Uh, Mh}
 use Rattle.drive.specs.declared.syringe.VolumeUnit.{VolumeUnit}
@@ -39,24 +39,24 @@ functionName (f.Out n) = text "OUT"
 abbrev pub datumText : Function → List ℕ
 datumText g =
     if eqb (number g) 9
-    then tenthsPrinted (datum g)
+    then printTenths (datum g)
     else if takesPhase g || takesCount g || eqb (number g) 8
-    then twoDigits (datum g)
+    then printTwo (datum g)
     else if isOut g
-    then digit (datum g) ∷ []
+    then lastDigit (datum g) ∷ []
     else []
 
 -- microlitres or millilitres, a minute or an hour
-abbrev pub rateUnitName : RateUnit → List ℕ
-rateUnitName Um = text "UM"
-rateUnitName Mm = text "MM"
-rateUnitName Uh = text "UH"
-rateUnitName Mh = text "MH"
+abbrev pub rateLetters : RateUnit → List ℕ
+rateLetters Um = text "UM"
+rateLetters Mm = text "MM"
+rateLetters Uh = text "UH"
+rateLetters Mh = text "MH"
 
-abbrev pub volumeUnitName : VolumeUnit → List ℕ
-volumeUnitName Microlitre = text "UL"
-volumeUnitName Millilitre = text "ML"
+abbrev pub volumeLetters : VolumeUnit → List ℕ
+volumeLetters Microlitre = text "UL"
+volumeLetters Millilitre = text "ML"
 
-abbrev pub directionName : Direction → List ℕ
-directionName Infuse = text "INF"
-directionName Withdraw = text "WDR"
+abbrev pub directionLetters : Direction → List ℕ
+directionLetters Infuse = text "INF"
+directionLetters Withdraw = text "WDR"

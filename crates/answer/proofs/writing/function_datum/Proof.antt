@@ -4,7 +4,7 @@ use mathlib.Core.Path.{_∙_}
 use native.Mathlib.Omega.{arith}
 use borrow.Author.Needs.{needs}
 use Rattle.base.proofs.Writing.{wrote-as, wrote-none}
-use Rattle.decimal.specs.Print.{digit}
+use Rattle.decimal.specs.Print.{lastDigit}
 use Rattle.answer.proofs.Functions.{data-shown}
 use Rattle.answer.proofs.writing.function_datum.Statement.{statement}
 use Rattle.answer.proofs.writing.function_datum.Tie as tie
@@ -17,7 +17,7 @@ returns-2 : tie.Need-returns-2
 returns-2 c = wrote-as (c .before .before .two-digits .ensures) (search data-shown)
 
 returns-3 : tie.Need-returns-3
-unfolding digit
+unfolding lastDigit
 returns-3 c = wrote-as (c .before .before .put .ensures) (search data-shown)
 
 returns-4 : tie.Need-returns-4

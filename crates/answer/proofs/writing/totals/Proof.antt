@@ -5,7 +5,7 @@ use mathlib.Core.List.{[], _∷_, _++_, append-assoc}
 use native.Mathlib.Omega.{arith}
 use borrow.Author.Needs.{needs}
 use Rattle.base.proofs.Writing.{wrote-two, wrote-three}
-use Rattle.decimal.specs.Print.{printed}
+use Rattle.decimal.specs.Print.{print}
 use Rattle.decimal.proofs.Theorems.{printed-length}
 use Rattle.answer.proofs.writing.totals.Statement.{statement}
 use Rattle.answer.proofs.writing.totals.Tie as tie
@@ -24,9 +24,9 @@ returns c =
     let first = infused .before .before .before .before in
     wrote-two
     _
-    (wrote-three (_ ∷ printed _ ++ (_ ∷ [])) (first .put .ensures) (infused .number .ensures) (middle .put2 .ensures) refl)
+    (wrote-three (_ ∷ print _ ++ (_ ∷ [])) (first .put .ensures) (infused .number .ensures) (middle .put2 .ensures) refl)
     (withdrawn .quantity .ensures)
-    (rw (withdrawn .before .before .volume-letters .ensures) (sym (append-assoc (_ ∷ printed _ ++ (_ ∷ [])) _ _)))
+    (rw (withdrawn .before .before .volume-letters .ensures) (sym (append-assoc (_ ∷ print _ ++ (_ ∷ [])) _ _)))
 
 pub totals-spec : {M : Type 1} → statement M
 totals-spec =

@@ -9,7 +9,7 @@ use Rattle.line.proofs.addresses.address_of.Tie as tie
 
 slice-aggregate-read-two : tie.Need-slice-aggregate-read-two
 slice-aggregate-read-two c =
-    simp length-take (omega (arith, width-within (c .before .before .before .args .s .now), c .before .width .ensures))
+    simp length-take (omega (arith, width-within (c .before .before .before .args .s .now), c .before .address-width .ensures))
 
 returns : tie.Need-returns
 returns c = search addresses

@@ -1,7 +1,6 @@
 -- `Pump::hear` meets its contract.
 -- Assumes nothing.
 use Rattle.pump.proofs.Calling.{arrivals, handy-line}
-use borrow.Author.Needs.{needs}
 use Rattle.pump.proofs.holder.Pump.hear.Statement.{statement}
 use Rattle.pump.proofs.holder.Pump.hear.Tie as tie
 

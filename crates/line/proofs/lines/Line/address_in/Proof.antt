@@ -1,12 +1,12 @@
--- `Line::address` meets its contract: the address in the kept characters.
+-- `Line::address_in` meets its contract: the address in the kept characters.
 -- Assumes nothing.
 use Rattle.line.proofs.Collecting.{address-kept}
 use lib.ListN.{length, length-take, length-map}
 use mathlib.Core.Path.{_≡_}
 use native.Mathlib.Omega.{arith}
 use lib.ListN.{length-take}
-use Rattle.line.proofs.lines.Line.address.Statement.{statement}
-use Rattle.line.proofs.lines.Line.address.Tie as tie
+use Rattle.line.proofs.lines.Line.address_in.Statement.{statement}
+use Rattle.line.proofs.lines.Line.address_in.Tie as tie
 
 array-share-prefix-bytes : tie.Need-array-share-prefix-bytes
 array-share-prefix-bytes c =
@@ -25,8 +25,8 @@ returns c =
     (simp length-map at (c .before .before .before .before .good .0 .1 .1 .0 .1 .0 .1)) (c .before .before .held .ensures)
     _ (c .address-of .ensures)
 
-pub address-spec : {M : Type 1} → statement M
-address-spec =
+pub address-in-spec : {M : Type 1} → statement M
+address-in-spec =
     tie.close
     (tie.spec
     (λ c κs. tt)

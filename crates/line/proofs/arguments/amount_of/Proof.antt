@@ -1,11 +1,11 @@
--- `amount` meets its contract: where there are units, all but the last two letters.
+-- `amount_of` meets its contract: where there are units, all but the last two letters.
 -- Assumes nothing.
 use Rattle.line.proofs.Asking.{no-units, some-units, units-within}
 use native.Mathlib.Omega.{arith}
 use lib.ListN.{length-take}
 use borrow.Author.Needs.{needs}
-use Rattle.line.proofs.arguments.amount.Statement.{statement}
-use Rattle.line.proofs.arguments.amount.Tie as tie
+use Rattle.line.proofs.arguments.amount_of.Statement.{statement}
+use Rattle.line.proofs.arguments.amount_of.Tie as tie
 
 sub-n : tie.Need-sub-n
 sub-n c = search units-within
@@ -19,8 +19,8 @@ returns c = search no-units
 returns-2 : tie.Need-returns-2
 returns-2 c = search some-units
 
-pub amount-spec : {M : Type 1} → statement M
-amount-spec =
+pub amount-of-spec : {M : Type 1} → statement M
+amount-of-spec =
     tie.close
     (tie.spec
     (λ c κs. tt)

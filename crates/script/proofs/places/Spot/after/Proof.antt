@@ -1,8 +1,8 @@
--- `Place::after` meets its contract: a newline, a return, or another byte.
+-- `Spot::after` meets its contract: a newline, a return, or another byte.
 -- Assumes nothing.
 use Rattle.script.proofs.Standing.{standing}
-use Rattle.script.proofs.places.Place.after.Statement.{statement}
-use Rattle.script.proofs.places.Place.after.Tie as tie
+use Rattle.script.proofs.places.Spot.after.Statement.{statement}
+use Rattle.script.proofs.places.Spot.after.Tie as tie
 
 returns : tie.Need-returns
 returns c = search standing

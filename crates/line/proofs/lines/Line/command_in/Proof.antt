@@ -1,4 +1,4 @@
--- `Line::command` meets its contract: an over-long line is malformed, any other asks for what stands behind its address.
+-- `Line::command_in` meets its contract: an over-long line is malformed, any other asks for what stands behind its address.
 -- Assumes nothing.
 use Rattle.line.proofs.Collecting.{command-kept}
 use lib.ListN.{length, length-take, length-map}
@@ -6,8 +6,8 @@ use mathlib.Core.Path.{_≡_}
 use native.Mathlib.Omega.{arith}
 use lib.ListN.{length-take}
 use Rattle.line.specs.Lines.{commandIn}
-use Rattle.line.proofs.lines.Line.command.Statement.{statement}
-use Rattle.line.proofs.lines.Line.command.Tie as tie
+use Rattle.line.proofs.lines.Line.command_in.Statement.{statement}
+use Rattle.line.proofs.lines.Line.command_in.Tie as tie
 
 returns : tie.Need-returns
 unfolding commandIn
@@ -32,8 +32,8 @@ returns-2 c =
     (c .before .before .before .held .ensures) _ _ (c .before .before .before .before .before .if1 .left)
     (c .before .unaddressed .ensures) (c .command-of .ensures)
 
-pub command-spec : {M : Type 1} → statement M
-command-spec =
+pub command-in-spec : {M : Type 1} → statement M
+command-in-spec =
     tie.close
     (tie.spec
     returns

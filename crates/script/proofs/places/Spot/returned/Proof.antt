@@ -1,9 +1,9 @@
--- `Place::line_end` meets its contract: the end of a line at each place.
+-- `Spot::returned` meets its contract: a return at each place.
 -- Assumes nothing.
 use Rattle.script.proofs.Standing.{standing}
 use borrow.Author.Needs.{needs}
-use Rattle.script.proofs.places.Place.line_end.Statement.{statement}
-use Rattle.script.proofs.places.Place.line_end.Tie as tie
+use Rattle.script.proofs.places.Spot.returned.Statement.{statement}
+use Rattle.script.proofs.places.Spot.returned.Tie as tie
 
 returns-4 : tie.Need-returns-4
 returns-4 c = search standing
@@ -11,8 +11,8 @@ returns-4 c = search standing
 returns-7 : tie.Need-returns-7
 returns-7 c = search standing
 
-pub line-end-spec : {M : Type 1} → statement M
-line-end-spec =
+pub returned-spec : {M : Type 1} → statement M
+returned-spec =
     tie.close
     (tie.spec
     (λ c. search needs)

@@ -1,32 +1,37 @@
--- `Place::act_on` meets its contract: only a text sends its bytes.
+-- `Spot::line_end` meets its contract: the end of a line at each place.
 -- Assumes nothing.
 use Rattle.script.proofs.Standing.{standing}
 use borrow.Author.Needs.{needs}
-use Rattle.script.proofs.places.Place.act_on.Statement.{statement}
-use Rattle.script.proofs.places.Place.act_on.Tie as tie
+use Rattle.script.proofs.places.Spot.line_end.Statement.{statement}
+use Rattle.script.proofs.places.Spot.line_end.Tie as tie
 
-returns-2 : tie.Need-returns-2
-returns-2 c = search standing
+returns-4 : tie.Need-returns-4
+returns-4 c = search standing
 
-pub act-on-spec : {M : Type 1} → statement M
-act-on-spec =
+returns-7 : tie.Need-returns-7
+returns-7 c = search standing
+
+pub line-end-spec : {M : Type 1} → statement M
+line-end-spec =
     tie.close
     (tie.spec
     (λ c. search needs)
     (λ c. search needs)
     (λ c. search needs)
     (λ c. search needs)
+    (λ c κs. tt)
+    (λ c. search needs)
+    (λ c. search needs)
+    (λ c. search needs)
+    (λ c κs. tt)
     (λ c. search needs)
     (λ c. search needs)
     (λ c. search needs)
     (λ c. search needs)
     (λ c. search needs)
-    (λ c. search needs)
-    returns-2
-    (λ c. search needs)
+    returns-4
     (λ c. search needs)
     (λ c. search needs)
-    (λ c. search needs)
-    (λ c. search needs)
+    returns-7
     (λ c. search needs)
     (λ c. search needs))

@@ -1,20 +1,19 @@
--- `Place::returned_act` meets its contract: only in a text, and behind another, a return is sent.
+-- `Spot::act_on` meets its contract: only a text sends its bytes.
 -- Assumes nothing.
 use Rattle.script.proofs.Standing.{standing}
 use borrow.Author.Needs.{needs}
-use Rattle.script.proofs.places.Place.returned_act.Statement.{statement}
-use Rattle.script.proofs.places.Place.returned_act.Tie as tie
+use Rattle.script.proofs.places.Spot.act_on.Statement.{statement}
+use Rattle.script.proofs.places.Spot.act_on.Tie as tie
 
-returns : tie.Need-returns
-returns c = search standing
+returns-2 : tie.Need-returns-2
+returns-2 c = search standing
 
-pub returned-act-spec : {M : Type 1} → statement M
-returned-act-spec =
+pub act-on-spec : {M : Type 1} → statement M
+act-on-spec =
     tie.close
     (tie.spec
     (λ c. search needs)
     (λ c. search needs)
-    returns
     (λ c. search needs)
     (λ c. search needs)
     (λ c. search needs)
@@ -23,7 +22,7 @@ returned-act-spec =
     (λ c. search needs)
     (λ c. search needs)
     (λ c. search needs)
-    (λ c. search needs)
+    returns-2
     (λ c. search needs)
     (λ c. search needs)
     (λ c. search needs)

@@ -1,10 +1,10 @@
--- `Line::after` meets its contract: what the byte does, by what it is.
+-- `Line::after_byte` meets its contract: what the byte does, by what it is.
 -- Assumes nothing.
 use mathlib.Core.Path.{sym, ap, _∙_}
 use Rattle.line.specs.Lines.{afterArrival, afterByte}
 use borrow.Author.Needs.{needs}
-use Rattle.line.proofs.lines.Line.after.Statement.{statement}
-use Rattle.line.proofs.lines.Line.after.Tie as tie
+use Rattle.line.proofs.lines.Line.after_byte.Statement.{statement}
+use Rattle.line.proofs.lines.Line.after_byte.Tie as tie
 
 returns : tie.Need-returns
 unfolding afterByte
@@ -23,8 +23,8 @@ returns-3 c =
     let e = sym (c .before .before .c .given .1) ∙ c .before .before .before .before .arrival-of .ensures in
     rw (c .with-character .ensures) (ap (afterArrival l) e)
 
-pub after-spec : {M : Type 1} → statement M
-after-spec =
+pub after-byte-spec : {M : Type 1} → statement M
+after-byte-spec =
     tie.close
     (tie.spec
     (λ c κs. tt)

@@ -12,12 +12,13 @@ use Rattle.base.specs.If.{if_then_else_}
 use Rattle.base.proofs.Writing.{wrote-then}
 use Rattle.pump.specs.Calls.{byteReport, byteBuffer, pinCall}
 use Rattle.pump.specs.declared.holder.Pump.{Pump}
+use Rattle.pump.specs.Reports.{isRefused}
 use Rattle.pump.specs.declared.reports.Report.{Report}
 use Rattle.many.specs.Ticking.{ticks}
 use Rattle.many.specs.declared.Ticked.{Ticked}
 use Rattle.script.specs.Places.{newline}
 use Rattle.bench.specs.Printing.{Prints, complaintLine, unframed, countsLine}
-use Rattle.bench.specs.Rigs.{withPump, isRefused, zeros, reportOn, bufferOn, answerLine, sentRig, sentLine, sendRig, sendLines}
+use Rattle.bench.specs.Rigs.{withPump, zeros, reportOn, bufferOn, answerLine, sentRig, sentLine, sendRig, sendLines}
 use Rattle.bench.specs.Rigs.{finishRig, finishLines, setRig, setLines, runRig, runLines, rigAfter, printed}
 use Rattle.script.specs.declared.places.Act.{Act}
 use Rattle.bench.specs.declared.rigs.Acted.{Acted}

@@ -14,11 +14,11 @@ use Rattle.words.specs.declared.answers.Said.{Said}
 use Rattle.words.specs.declared.answers.Said.the-variants as said
 use Rattle.pump.specs.Calls.{byteReport, hear, answered}
 use Rattle.pump.specs.Holder.{isSoundPump}
-use Rattle.pump.specs.Reports.{refused}
+use Rattle.pump.specs.Reports.{ofByte, isRefused, refused}
 use Rattle.pump.specs.declared.calls.Listened.{Listened}
 use Rattle.pump.specs.declared.holder.Pump.{Pump}
 use Rattle.pump.specs.declared.reports.Report.{Report}
-use Rattle.pump.specs.declared.reports.Refusal.the-variants.{Unsound}
+use Rattle.pump.specs.declared.reports.Refusal.{Refusal}
 use Rattle.bench.specs.Rigs.{zeros}
 
 -- the lengths that an answer can have
@@ -36,11 +36,14 @@ heard-sized l = answer-sized (l .said)
 
 pub byte-sized : (p : Pump) (b : ℕ) → Sized (byteReport p b zeros .length)
 unfolding byteReport
-byte-sized p b = go (isSoundPump p)
+byte-sized p b = go (ofByte (isSoundPump p) (length zeros))
   where
-    go : (t : Bool) → Sized ((if t then answered (hear p b) zeros else refused p Unsound) .length)
-    go true = heard-sized (hear p b)
-    go false = inl refl
+    by : (refusal : Refusal) (t : Bool) → Sized ((if t then refused p refusal else answered (hear p b) zeros) .length)
+    by refusal true = inl refl
+    by refusal false = heard-sized (hear p b)
+
+    go : (refusal : Refusal) → Sized ((if isRefused refusal then refused p refusal else answered (hear p b) zeros) .length)
+    go refusal = by refusal (isRefused refusal)
 
 pub sized : (p : Pump) (b : ℕ) (r : Report) → r ≡ byteReport p b zeros → Sized (r .length)
 sized p b r e = rw e (byte-sized p b)

@@ -6,11 +6,12 @@ use Rattle.base.specs.If.{if_then_else_}
 use Rattle.many.specs.Ticking.{ticks}
 use Rattle.pump.specs.Calls.{pinCall}
 use Rattle.pump.specs.Holder.{modelPhases, freshPump}
+use Rattle.pump.specs.Reports.{isRefused}
 use Rattle.pump.specs.declared.holder.Pump.{Pump}
 use Rattle.script.specs.Items.{Item, say, level, elapse, noItem, linesOf, itemOf}
 use Rattle.script.specs.Places.{carriageReturn, newline}
 use Rattle.bench.specs.Printing.{complaintLine, countsLine}
-use Rattle.bench.specs.Rigs.{isRefused, reportOn, bufferOn, answerLine}
+use Rattle.bench.specs.Rigs.{reportOn, bufferOn, answerLine}
 
 -- ---- bytes sent to the pump, one after the other: each answer is a line, and so is the `!` of a refused call
 unfoldable pub pumpSent : Pump → List ℕ → Pump

@@ -1,15 +1,14 @@
 -- The pump under test: what each act does to it, and what is printed.   (01, Marked figures: the bench program; docs/DECISIONS.md, 29)
 use Prim.Native.Nat.{ℕ}
-use mathlib.Core.Bool.{Bool, true, false, not}
+use mathlib.Core.Bool.{Bool, true, false}
 use mathlib.Core.List.{List, [], _∷_, _++_}
 use lib.Dec.{eqb}
 use lib.ListN.{replicate}
 use Rattle.base.specs.If.{if_then_else_}
 use Rattle.pump.specs.Calls.{byteReport, byteBuffer, pinCall}
 use Rattle.pump.specs.Holder.{modelPhases, freshPump}
-use Rattle.pump.specs.Reports.{refusalNumber}
+use Rattle.pump.specs.Reports.{isRefused}
 use Rattle.pump.specs.declared.holder.Pump.{Pump}
-use Rattle.pump.specs.declared.reports.Refusal.{Refusal}
 use Rattle.pump.specs.declared.reports.Report.{Report}
 use Rattle.script.specs.Places.{carriageReturn, newline}
 use Rattle.bench.specs.Printing.{complaintLine, unframed, countsLine}
@@ -25,9 +24,6 @@ freshRig = record { pump = freshPump modelPhases; replied = false }
 -- another pump in the rig
 abbrev pub withPump : Rig → Pump → Rig
 withPump g p = record { pump = p; replied = g .replied }
-
-abbrev pub isRefused : Refusal → Bool
-isRefused r = not (eqb (refusalNumber r) 0)
 
 -- ---- a byte call: its report, and the buffer that it writes its answer to
 abbrev pub zeros : List ℕ

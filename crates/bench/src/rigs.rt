@@ -3,7 +3,7 @@ ghost use mathlib.Core.Path.{_≡_};
 ghost use Prim.Native.Nat.{_+_, _≤_};
 ghost use lib.ListN.{length};
 ghost use Rattle.bench.specs.Printing.{Prints};
-ghost use Rattle.bench.specs.Rigs.{freshRig, rigAfter, printed, isRefused, sentRig, sentLine, sendRig, sendLines};
+ghost use Rattle.bench.specs.Rigs.{freshRig, rigAfter, printed, sentRig, sentLine, sendRig, sendLines};
 ghost use Rattle.bench.specs.Rigs.{finishRig, finishLines, setRig, setLines, runRig, runLines};
 use crate::printing::answer_line;
 use crate::printing::complaint;
@@ -101,7 +101,7 @@ impl Rig {
         let mut answer = [0u8; 24];
         let report = self.pump.byte(b, &mut answer);
         let refusal = report.refusal;
-        let end = answer_line(is_refused(refusal), report.length, &answer, out, at);
+        let end = answer_line(refusal.is_refused(), report.length, &answer, out, at);
         Acted::new(report.pump, self.replied | (at < end), end)
     }
 
@@ -117,7 +117,7 @@ impl Rig {
         Acted::new(
             report.pump,
             self.replied,
-            refusal_line(is_refused(refusal), out, at),
+            refusal_line(refusal.is_refused(), out, at),
         )
     }
 
@@ -153,11 +153,4 @@ impl Acted {
             end: end,
         }
     }
-}
-
-// Every refusal but none has a number.
-fn is_refused(refusal: Refusal) -> bool
-    ensures { λ r. ⌜ r ≡ isRefused refusal ⌝ }
-{
-    refusal.number() != 0
 }

@@ -33,6 +33,7 @@ use Rattle.answer.specs.Answers as answers
 use Rattle.pump.specs.Device as device
 use Rattle.pump.specs.Holder as holder
 use Rattle.pump.specs.Calls as calls
+use Rattle.pump.specs.Reports as reports
 use Rattle.statement.specs.Histories as histories
 use Rattle.condition3.specs.Observations as observations
 
@@ -58,6 +59,6 @@ unfolding read.isDigit read.isPoint read.plain read.digits read.points read.deci
     judging.judgePhase judging.judgeFunction obeying.settle obeying.setDiameter obeying.tune obeying.setRate obeying.choose
     obeying.clearTotal
     device.isSoundDevice device.obeyed device.ours device.hearLine holder.phaseAt holder.withPhase holder.freshPhases holder.isSoundPhases
-    holder.isSoundPump calls.tickCall calls.afterLine calls.hear calls.byteReport calls.byteBuffer
+    holder.isSoundPump calls.tickCall calls.afterLine calls.hear calls.byteReport calls.byteBuffer reports.ofPin reports.ofByte
     histories.after observations.trace observations.noted
 opened = 0

@@ -2,7 +2,7 @@
 -- Assumes nothing.
 use Prim.Native.Nat.{ℕ, _+_, _≤_, _<_}
 use mathlib.Core.Path.{_≡_, refl, sym, ap, _∙_}
-use mathlib.Core.Logic.{_⊎_, inl, inr}
+use mathlib.Core.Logic.{_⊎_, inl, inr, ⊎-elim}
 use mathlib.Core.Bool.{Bool, true, false}
 use mathlib.Core.List.{List}
 use native.Mathlib.Omega.{arith}
@@ -10,6 +10,7 @@ use lib.Dec.{eqb}
 use lib.ListN.{length}
 use borrow.Author.Tests.{lt-ltb, le-ltb, ne-eqb}
 use Rattle.base.specs.If.{if_then_else_}
+use Rattle.base.proofs.Choices.{false-true}
 use Rattle.words.specs.declared.answers.Said.{Said}
 use Rattle.words.specs.declared.answers.Said.the-variants as s
 use Rattle.words.specs.declared.phases.Phase.{Phase}
@@ -23,11 +24,11 @@ use Rattle.line.specs.declared.lines.Arrived.{Arrived}
 use Rattle.line.specs.declared.lines.Line.{Line}
 use Rattle.answer.specs.Answers.{room, lengthIn}
 use Rattle.pump.specs.Calls as calls
-use Rattle.pump.specs.Calls.{Handy, tickCall, levelled, pinCall, saying, afterLine, hear, answered, answeredBuffer}
+use Rattle.pump.specs.Calls.{Handy, tickCall, pinCall, saying, afterLine, hear, answered, answeredBuffer}
 use Rattle.pump.specs.Calls.{byteReport, byteBuffer}
 use Rattle.pump.specs.Device.{withLine, edge, hearLine, said}
 use Rattle.pump.specs.Holder.{phaseCount, phaseAt, hereOf, withDevice, edited, isSoundPump, checked}
-use Rattle.pump.specs.Reports.{refused, reported, unless, movedBy}
+use Rattle.pump.specs.Reports.{isPin, unless, ofPin, ofByte, isRefused, refused, reported, movedBy}
 use Rattle.pump.specs.declared.calls.Listened.{Listened}
 use Rattle.pump.specs.declared.checks.Checked.{Checked}
 use Rattle.pump.specs.declared.device.Device.{Device}
@@ -35,7 +36,7 @@ use Rattle.pump.specs.declared.device.Heard.{Heard}
 use Rattle.pump.specs.declared.device.Told.{Told}
 use Rattle.pump.specs.declared.holder.Pump.{Pump}
 use Rattle.pump.specs.declared.reports.Refusal.{Refusal}
-use Rattle.pump.specs.declared.reports.Refusal.the-variants.{ShortBuffer, NoPin, NoLevel, Unsound}
+use Rattle.pump.specs.declared.reports.Refusal.the-variants.{Accepted, ShortBuffer, NoPin, NoLevel, Unsound}
 use Rattle.pump.specs.declared.reports.Report.{Report}
 use Rattle.pump.proofs.Kept.{pump-core, table-here}
 
@@ -84,78 +85,104 @@ module _ (p : Pump) (k : Checked) (c : k ≡ checked p) where
   tick-checked m refusal r a b q =
       q ∙ rw (a, b, ap (λ x. x .here) c) (tick-by p (k .sound) (ap (λ x. x .sound) c))
 
-module _ (p : Pump) (sound : Bool) (s : sound ≡ isSoundPump p) where
+-- ---- the refusal of a pin and of a byte, by what is tested
+module _ (sound : Bool) (pin level : ℕ) where
   module _ (e : sound ≡ true) where
-    pub handy-now : phaseCount p ≤ 99 → Handy p
-    handy-now few = handy p few (sym s ∙ e)
+    module _ (h : (pin ≡ 2) ⊎ (pin ≡ 4) ⊎ (pin ≡ 6)) where
+      is-pin : isPin pin ≡ true
+      is-pin = ⊎-elim (λ k. rw k refl) (⊎-elim (λ k. rw k refl) (λ k. rw k refl)) h
 
-    -- ---- the pin
-    module _ (pin level : ℕ) (r : Report) where
-      pub pin-levelled : (pin ≡ 2) ⊎ (pin ≡ 4) ⊎ (pin ≡ 6) → r ≡ levelled p pin level → r ≡ pinCall p pin level
-      unfolding pinCall
-      pin-levelled (inl h) q = q ∙ sym (simp (sym s ∙ e, h))
-      pin-levelled (inr (inl h)) q = q ∙ sym (simp (sym s ∙ e, h))
-      pin-levelled (inr (inr h)) q = q ∙ sym (simp (sym s ∙ e, h))
+      pub no-level : 1 < level → NoLevel ≡ ofPin sound pin level
+      unfolding ofPin
+      no-level k = sym (simp (e, is-pin, lt-ltb 1 level k))
 
-      pub no-pin : ((pin ≡ 2) ⊎ (pin ≡ 4) ⊎ (pin ≡ 6) → ⊥) → r ≡ refused p NoPin → r ≡ pinCall p pin level
-      unfolding pinCall
-      no-pin n q =
-          q
-          ∙ sym
-          (simp (sym s ∙ e, ne-eqb pin 2 (λ k. n (inl k)), ne-eqb pin 4 (λ k. n (inr (inl k))), ne-eqb pin 6 (λ k. n (inr (inr k)))))
+      pub pin-accepted : level ≤ 1 → Accepted ≡ ofPin sound pin level
+      unfolding ofPin
+      pin-accepted k = sym (simp (e, is-pin, le-ltb 1 level k))
 
-    -- ---- the byte
-    module _ (b : ℕ) (buffer : List ℕ) where
-      pub byte-short : (r : Report) → length buffer < room → r ≡ refused p ShortBuffer → r ≡ byteReport p b buffer
-      unfolding byteReport
-      byte-short r h q = q ∙ sym (simp (sym s ∙ e, lt-ltb (length buffer) room h))
+    pub no-pin : ((pin ≡ 2) ⊎ (pin ≡ 4) ⊎ (pin ≡ 6) → ⊥) → NoPin ≡ ofPin sound pin level
+    unfolding ofPin
+    no-pin n =
+        sym (simp (e, ne-eqb pin 2 (λ k. n (inl k)), ne-eqb pin 4 (λ k. n (inr (inl k))), ne-eqb pin 6 (λ k. n (inr (inr k)))))
 
-      pub byte-short-buffer : length buffer < room → buffer ≡ byteBuffer p b buffer
-      unfolding byteBuffer
-      byte-short-buffer h = sym (simp (sym s ∙ e, lt-ltb (length buffer) room h))
+  pub pin-unsound : sound ≡ false → Unsound ≡ ofPin sound pin level
+  unfolding ofPin
+  pin-unsound e = sym (simp e)
 
-      module _ (l : Listened) (k : l ≡ hear p b) (h : room ≤ length buffer) where
-        pub byte-answered : (r : Report) → r ≡ answered l buffer → r ≡ byteReport p b buffer
-        unfolding byteReport
-        byte-answered r q = q ∙ ap (λ (x : Listened). answered x buffer) k ∙ sym (simp (sym s ∙ e, le-ltb (length buffer) room h))
+pub ruleset pins = (no-level, pin-accepted, no-pin, pin-unsound)
 
-        pub byte-written : (after : List ℕ) → after ≡ answeredBuffer l buffer → after ≡ byteBuffer p b buffer
-        unfolding byteBuffer
-        byte-written after q =
-            q ∙ ap (λ (x : Listened). answeredBuffer x buffer) k ∙ sym (simp (sym s ∙ e, le-ltb (length buffer) room h))
+module _ (sound : Bool) (size : ℕ) where
+  pub short : sound ≡ true → size < room → ShortBuffer ≡ ofByte sound size
+  unfolding ofByte
+  short e k = sym (simp (e, lt-ltb size room k))
 
-  -- ---- a state that is not sound
-  module _ (e : sound ≡ false) (r : Report) (q : r ≡ refused p Unsound) where
-    pub pin-unsound : (pin level : ℕ) → r ≡ pinCall p pin level
+  pub byte-accepted : sound ≡ true → room ≤ size → Accepted ≡ ofByte sound size
+  unfolding ofByte
+  byte-accepted e k = sym (simp (e, le-ltb size room k))
+
+  pub byte-unsound : sound ≡ false → Unsound ≡ ofByte sound size
+  unfolding ofByte
+  byte-unsound e = sym (simp e)
+
+pub ruleset bytes = (short, byte-accepted, byte-unsound)
+
+-- ---- what is not refused is of a sound state
+pin-sound : (sound : Bool) (pin level : ℕ) → isRefused (ofPin sound pin level) ≡ false → sound ≡ true
+unfolding ofPin
+pin-sound true pin level h = refl
+pin-sound false pin level h = false-true (sym h)
+
+byte-sound : (sound : Bool) (size : ℕ) → isRefused (ofByte sound size) ≡ false → sound ≡ true
+unfolding ofByte
+byte-sound true size h = refl
+byte-sound false size h = false-true (sym h)
+
+-- ---- the pin and the byte: refused, or done
+module _ (p : Pump) (u : Bool) (s : u ≡ isSoundPump p) (x : Refusal) (t : Bool) (tested : t ≡ isRefused x) (r : Report) where
+  module _ (pin level : ℕ) (k : x ≡ ofPin u pin level) where
+    pin-refusal : x ≡ ofPin (isSoundPump p) pin level
+    pin-refusal = k ∙ ap (λ (w : Bool). ofPin w pin level) s
+
+    pin-tested : isRefused (ofPin (isSoundPump p) pin level) ≡ t
+    pin-tested = ap isRefused (sym pin-refusal) ∙ sym tested
+
+    pub pin-handy : phaseCount p ≤ 99 → t ≡ false → Handy p
+    pin-handy few h = handy p few (pin-sound (isSoundPump p) pin level (pin-tested ∙ h))
+
+    pub pin-refused : t ≡ true → r ≡ refused p x → r ≡ pinCall p pin level
     unfolding pinCall
-    pin-unsound pin level = q ∙ sym (simp (sym s ∙ e))
+    pin-refused h q = q ∙ ap (refused p) pin-refusal ∙ sym (simp (pin-tested ∙ h))
 
-    pub byte-unsound : (b : ℕ) (buffer : List ℕ) → r ≡ byteReport p b buffer
+    pub pin-done : (v : Device) → t ≡ false → v ≡ edge (p .device) pin (eqb level 1) → r ≡ reported (withDevice p v) 0 → r ≡ pinCall p pin level
+    unfolding pinCall
+    pin-done v h e q = q ∙ ap (λ (w : Device). reported (withDevice p w) 0) e ∙ sym (simp (pin-tested ∙ h))
+
+  module _ (b : ℕ) (buffer : List ℕ) (k : x ≡ ofByte u (length buffer)) where
+    byte-refusal : x ≡ ofByte (isSoundPump p) (length buffer)
+    byte-refusal = k ∙ ap (λ (w : Bool). ofByte w (length buffer)) s
+
+    byte-tested : isRefused (ofByte (isSoundPump p) (length buffer)) ≡ t
+    byte-tested = ap isRefused (sym byte-refusal) ∙ sym tested
+
+    pub byte-handy : phaseCount p ≤ 99 → t ≡ false → Handy p
+    byte-handy few h = handy p few (byte-sound (isSoundPump p) (length buffer) (byte-tested ∙ h))
+
+    pub byte-refused : t ≡ true → r ≡ refused p x → r ≡ byteReport p b buffer
     unfolding byteReport
-    byte-unsound b buffer = q ∙ sym (simp (sym s ∙ e))
+    byte-refused h q = q ∙ ap (refused p) byte-refusal ∙ sym (simp (byte-tested ∙ h))
 
-  pub byte-kept : sound ≡ false → (b : ℕ) (buffer : List ℕ) → buffer ≡ byteBuffer p b buffer
-  unfolding byteBuffer
-  byte-kept e b buffer = sym (simp (sym s ∙ e))
+    pub byte-kept : t ≡ true → buffer ≡ byteBuffer p b buffer
+    unfolding byteBuffer
+    byte-kept h = sym (simp (byte-tested ∙ h))
 
-pub ruleset pins = (pin-levelled, no-pin, pin-unsound)
+    module _ (h : t ≡ false) (l : Listened) (heard : l ≡ hear p b) where
+      pub byte-answered : r ≡ answered l buffer → r ≡ byteReport p b buffer
+      unfolding byteReport
+      byte-answered q = q ∙ ap (λ (w : Listened). answered w buffer) heard ∙ sym (simp (byte-tested ∙ h))
 
-pub ruleset bytes = (byte-short, byte-short-buffer, byte-answered, byte-written, byte-unsound, byte-kept)
-
--- ---- a level
-module _ (p : Pump) (pin level : ℕ) (r : Report) where
-  pub no-level : 1 < level → r ≡ refused p NoLevel → r ≡ levelled p pin level
-  unfolding levelled
-  no-level h q = q ∙ sym (simp (lt-ltb 1 level h))
-
-  pub some-level :
-      (v : Device)
-      → level ≤ 1
-      → v ≡ edge (p .device) pin (eqb level 1)
-      → r ≡ reported (withDevice p v) 0
-      → r ≡ levelled p pin level
-  unfolding levelled
-  some-level v h k q = q ∙ ap (λ (x : Device). reported (withDevice p x) 0) k ∙ sym (simp (le-ltb 1 level h))
+      pub byte-written : (after : List ℕ) → after ≡ answeredBuffer l buffer → after ≡ byteBuffer p b buffer
+      unfolding byteBuffer
+      byte-written after q = q ∙ ap (λ (w : Listened). answeredBuffer w buffer) heard ∙ sym (simp (byte-tested ∙ h))
 
 -- ---- what is said is framed
 pub answered-report :

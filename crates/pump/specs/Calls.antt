@@ -1,8 +1,7 @@
 -- The calls, refusals included: for each the new state, the whole report and, for a byte, the whole buffer.   (01, Calls)
 use Prim.Native.Nat.{ℕ, _+_, _≤_}
-use mathlib.Core.Bool.{Bool, _||_}
 use mathlib.Core.List.{List}
-use lib.Dec.{ltb, eqb}
+use lib.Dec.{eqb}
 use lib.ListN.{length}
 use Rattle.base.specs.If.{if_then_else_}
 use Rattle.words.specs.declared.answers.Said.the-variants as said
@@ -10,15 +9,15 @@ use Rattle.program.specs.Statuses.{inHand}
 use Rattle.tick.specs.Ticks.{tick}
 use Rattle.line.specs.Lines.{afterByte}
 use Rattle.line.specs.declared.lines.Arrived.{Arrived}
-use Rattle.answer.specs.Answers.{room, lengthIn, bufferAfter}
+use Rattle.answer.specs.Answers.{lengthIn, bufferAfter}
 use Rattle.pump.specs.Device.{withLine, edge, hearLine, said}
 use Rattle.pump.specs.Holder.{phaseCount, phaseAt, hereOf, withDevice, edited, isSoundPump}
-use Rattle.pump.specs.Reports.{refused, reported, movedBy}
+use Rattle.pump.specs.Reports.{ofPin, ofByte, isRefused, refused, unlessRefused, reported, movedBy}
 use Rattle.pump.specs.declared.calls.Listened.{Listened}
 use Rattle.pump.specs.declared.device.Heard.{Heard}
 use Rattle.pump.specs.declared.device.Told.{Told}
 use Rattle.pump.specs.declared.holder.Pump.{Pump}
-use Rattle.pump.specs.declared.reports.Refusal.the-variants.{Accepted, ShortBuffer, NoPin, NoLevel, Unsound}
+use Rattle.pump.specs.declared.reports.Refusal.the-variants.{Accepted, Unsound}
 use Rattle.pump.specs.declared.reports.Report.{Report}
 
 -- what the code of a call may rely on once the state is known to be sound
@@ -33,17 +32,10 @@ ticked p = movedBy p (tick (p .device .core) (hereOf p)) Accepted
 unfoldable pub tickCall : Pump → Report
 tickCall p = if isSoundPump p then ticked p else refused p Unsound
 
--- ---- a pin level: 4, then 2 where the pin is not 2, 4 or 6, then 3 where the level is not 0 or 1
-abbrev pub isPin : ℕ → Bool
-isPin pin = eqb pin 2 || eqb pin 4 || eqb pin 6
-
-unfoldable pub levelled : Pump → ℕ → ℕ → Report
-levelled p pin level =
-    if ltb 1 level then refused p NoLevel else reported (withDevice p (edge (p .device) pin (eqb level 1))) 0
-
+-- ---- a pin level
 unfoldable pub pinCall : Pump → ℕ → ℕ → Report
 pinCall p pin level =
-    if isSoundPump p then if isPin pin then levelled p pin level else refused p NoPin else refused p Unsound
+    unlessRefused p (ofPin (isSoundPump p) pin level) (reported (withDevice p (edge (p .device) pin (eqb level 1))) 0)
 
 -- ---- what is said, with the status after the command: that of the phase which is then the current one
 abbrev pub saying : Pump → Told → Listened
@@ -76,13 +68,10 @@ answered l buffer = reported (l .pump) (lengthIn 0 (l .said) buffer)
 abbrev pub answeredBuffer : Listened → List ℕ → List ℕ
 answeredBuffer l buffer = bufferAfter 0 (l .said) buffer
 
--- ---- the call: 4, then 1 where the buffer has under 24 bytes; what is refused leaves the buffer as it was
+-- ---- a byte; what is refused leaves the buffer as it was
 unfoldable pub byteReport : Pump → ℕ → List ℕ → Report
-byteReport p b buffer =
-    if isSoundPump p
-    then if ltb (length buffer) room then refused p ShortBuffer else answered (hear p b) buffer
-    else refused p Unsound
+byteReport p b buffer = unlessRefused p (ofByte (isSoundPump p) (length buffer)) (answered (hear p b) buffer)
 
 unfoldable pub byteBuffer : Pump → ℕ → List ℕ → List ℕ
 byteBuffer p b buffer =
-    if isSoundPump p then if ltb (length buffer) room then buffer else answeredBuffer (hear p b) buffer else buffer
+    if isRefused (ofByte (isSoundPump p) (length buffer)) then buffer else answeredBuffer (hear p b) buffer

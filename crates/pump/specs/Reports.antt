@@ -1,8 +1,10 @@
 -- What every call hands back, and the refusals with their numbers.   (01, Calls)
 use Prim.Native.Nat.{ℕ}
-use mathlib.Core.Bool.{Bool}
+use mathlib.Core.Bool.{Bool, not, _||_}
+use lib.Dec.{ltb, eqb}
 use Rattle.base.specs.If.{if_then_else_}
 use Rattle.tick.specs.declared.Moved.{Moved}
+use Rattle.answer.specs.Answers.{room}
 use Rattle.pump.specs.Device.{withCore}
 use Rattle.pump.specs.Holder.{withDevice}
 use Rattle.pump.specs.declared.holder.Pump.{Pump}
@@ -18,14 +20,33 @@ refusalNumber NoPin = 2
 refusalNumber NoLevel = 3
 refusalNumber Unsound = 4
 
--- the refusal of a call that asks for a sound state and for nothing else
+-- ---- which refusal a call gets, whatever holds the phases; a call that asks for a sound state and for nothing else
 abbrev pub unless : Bool → Refusal
 unless sound = if sound then Accepted else Unsound
 
+-- a pin level: 4, then 2 where the pin is not 2, 4 or 6, then 3 where the level is not 0 or 1
+abbrev pub isPin : ℕ → Bool
+isPin pin = eqb pin 2 || eqb pin 4 || eqb pin 6
+
+unfoldable pub ofPin : Bool → ℕ → ℕ → Refusal
+ofPin sound pin level = if sound then if isPin pin then if ltb 1 level then NoLevel else Accepted else NoPin else Unsound
+
+-- a byte: 4, then 1 where the buffer has under 24 bytes
+unfoldable pub ofByte : Bool → ℕ → Refusal
+ofByte sound size = if sound then if ltb size room then ShortBuffer else Accepted else Unsound
+
+abbrev pub isRefused : Refusal → Bool
+isRefused refusal = not (eqb (refusalNumber refusal) 0)
+
+-- ---- what a call hands back
 -- the given state, no step, no beep, no answer
 abbrev pub refused : Pump → Refusal → Report
 refused p refusal =
     record { pump = p; length = 0; infused = 0; withdrawn = 0; beeps = 0; refusal = refusal; output = p .device .core .output }
+
+-- a call does what it does where it is not refused
+abbrev pub unlessRefused : Pump → Refusal → Report → Report
+unlessRefused p refusal does = if isRefused refusal then refused p refusal else does
 
 -- no step, and an answer of that length
 abbrev pub reported : Pump → ℕ → Report

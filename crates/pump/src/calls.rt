@@ -1,6 +1,6 @@
 // The calls: a byte, a pin level, a tick. Each tests the whole state first; no call has a precondition.
 ghost use mathlib.Core.Path.{_≡_};
-ghost use Rattle.pump.specs.Calls.{Handy, tickCall, pinCall, levelled, byteReport, byteBuffer, hear, afterLine, saying};
+ghost use Rattle.pump.specs.Calls.{Handy, tickCall, pinCall, byteReport, byteBuffer, hear, afterLine, saying};
 ghost use Rattle.pump.specs.Calls.{answered, answeredBuffer};
 use crate::device::Told;
 use crate::holder::Pump;
@@ -39,41 +39,26 @@ impl Pump {
     }
 
     // A level of pin 2, 4 or 6: 0 is low, 1 is high.
-    pub fn pin(self, pin: u8, level: u8) -> Report
+    pub fn pin(mut self, pin: u8, level: u8) -> Report
         ensures { λ r. ⌜ r ≡ pinCall self pin level ⌝ }
     {
-        if self.is_sound() {
-            match pin {
-                2 | 4 | 6 => return self.levelled(pin, level),
-                _ => return self.refused(Refusal::NoPin),
-            }
+        let refusal = Refusal::of_pin(self.is_sound(), pin, level);
+        if refusal.is_refused() {
+            return self.refused(refusal);
         }
-        self.refused(Refusal::Unsound)
+        self.device = self.device.edge(pin, level == 1);
+        self.reported(0)
     }
 
     // One byte of a line. A whole line's answer is written at the start of `out`.
     pub fn byte(self, b: u8, out: &mut [u8]) -> Report
         ensures { λ r. ⌜ (r ≡ byteReport self b (now (out .entry))) × (now (out .exit) ≡ byteBuffer self b (now (out .entry))) ⌝ }
     {
-        if self.is_sound() {
-            if out.len() < answer::ROOM {
-                return self.refused(Refusal::ShortBuffer);
-            }
-            return self.hear(b).answered(out);
+        let refusal = Refusal::of_byte(self.is_sound(), out.len());
+        if refusal.is_refused() {
+            return self.refused(refusal);
         }
-        self.refused(Refusal::Unsound)
-    }
-
-    // The pin is one of the three; a level that is neither 0 nor 1 is refused.
-    fn levelled(mut self, pin: u8, level: u8) -> Report
-        requires { ⌜ Handy self ⌝ }
-        ensures { λ r. ⌜ r ≡ levelled self pin level ⌝ }
-    {
-        if 1 < level {
-            return self.refused(Refusal::NoLevel);
-        }
-        self.device = self.device.edge(pin, level == 1);
-        self.reported(0)
+        self.hear(b).answered(out)
     }
 
     // The byte goes to the line, and a line that it ends is heard.

@@ -1,6 +1,6 @@
 // What every call hands back, and the refusals.
 ghost use mathlib.Core.Path.{_≡_};
-ghost use Rattle.pump.specs.Reports.{refusalNumber, refused, reported, unless, movedBy};
+ghost use Rattle.pump.specs.Reports.{refusalNumber, unless, ofPin, ofByte, isRefused, refused, reported, movedBy};
 use crate::holder::Pump;
 use tick::Moved;
 
@@ -21,6 +21,43 @@ impl Refusal {
             return Refusal::Accepted;
         }
         Refusal::Unsound
+    }
+
+    // That of a pin's level: the state, then the pin, then the level.
+    pub fn of_pin(sound: bool, pin: u8, level: u8) -> Refusal
+        ensures { λ r. ⌜ r ≡ ofPin sound pin level ⌝ }
+    {
+        if sound {
+            match pin {
+                2 | 4 | 6 => {
+                    if 1 < level {
+                        return Refusal::NoLevel;
+                    }
+                    return Refusal::Accepted;
+                }
+                _ => return Refusal::NoPin,
+            }
+        }
+        Refusal::Unsound
+    }
+
+    // That of a byte: the state, then the room for an answer.
+    pub fn of_byte(sound: bool, size: usize) -> Refusal
+        ensures { λ r. ⌜ r ≡ ofByte sound size ⌝ }
+    {
+        if sound {
+            if size < answer::ROOM {
+                return Refusal::ShortBuffer;
+            }
+            return Refusal::Accepted;
+        }
+        Refusal::Unsound
+    }
+
+    pub fn is_refused(self) -> bool
+        ensures { λ r. ⌜ r ≡ isRefused self ⌝ }
+    {
+        self.number() != 0
     }
 
     // The number in document 01's table; 0 where nothing was refused.

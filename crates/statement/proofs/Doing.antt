@@ -14,10 +14,10 @@ use Rattle.words.specs.declared.answers.Said.{Said}
 use Rattle.program.specs.declared.state.Core.{Core}
 use Rattle.answer.specs.Answers.{answerOf, lengthIn, bufferAfter}
 use Rattle.answer.proofs.Theorems.{length-kept}
-use Rattle.pump.specs.Calls.{ticked, levelled, pinCall, hear, answered, answeredBuffer, byteReport, byteBuffer}
+use Rattle.pump.specs.Calls.{ticked, pinCall, hear, answered, answeredBuffer, byteReport, byteBuffer}
 use Rattle.pump.specs.Device.{edgeOf, edge}
 use Rattle.pump.specs.Holder.{isSoundPump}
-use Rattle.pump.specs.Reports.{reported}
+use Rattle.pump.specs.Reports.{ofPin, ofByte, reported}
 use Rattle.pump.specs.declared.holder.Pump.{Pump}
 use Rattle.pump.proofs.Kept.{sound-tick}
 use Rattle.statement.specs.Facts.{coreOf}
@@ -63,7 +63,7 @@ module _ (p : Pump) (pin level : ℕ) (k : Pin pin) (h : level ≤ 1) where
   core = edgeOf (coreOf p) pin (eqb level 1)
 
   pin-taken : isSoundPump p ≡ true → pinCall p pin level ≡ reported (pumpWithCore p core) 0
-  unfolding pinCall levelled edge
+  unfolding pinCall ofPin edge
   pin-taken e = rw (e, pin-test pin k, le-ltb 1 level h) refl
 
   pin-does : isSoundPump p ≡ true → Levelled p pin level (outcomeOf p (pinAt pin level))
@@ -109,11 +109,11 @@ module _ (before : List ℕ) (h : 24 ≤ length before) where
 
   module _ (p : Pump) (b : ℕ) (e : isSoundPump p ≡ true) where
     report-heard : byteReport p b before ≡ answered (heard p b) before
-    unfolding byteReport hear
+    unfolding byteReport ofByte hear
     report-heard = simp (e, le-ltb (length before) 24 h) refl
 
     buffer-heard : byteBuffer p b before ≡ answeredBuffer (heard p b) before
-    unfolding byteBuffer hear
+    unfolding byteBuffer ofByte hear
     buffer-heard = simp (e, le-ltb (length before) 24 h) refl
 
     byte-does : ByteHeard p b before (outcomeOf p (byteIn b before))

@@ -12,9 +12,9 @@ use lib.Dec.{ltb, eqb}
 use lib.ListN.{length}
 use borrow.Author.Tests.{ltb-true, ltb-false, lt-ltb, eqb-true, ne-eqb}
 use Rattle.base.proofs.Choices.{false-true}
-use Rattle.pump.specs.Calls.{isPin, tickCall, levelled, pinCall, byteReport, byteBuffer}
+use Rattle.pump.specs.Calls.{tickCall, pinCall, byteReport, byteBuffer}
 use Rattle.pump.specs.Holder.{isSoundPump}
-use Rattle.pump.specs.Reports.{refusalNumber}
+use Rattle.pump.specs.Reports.{refusalNumber, isPin, ofPin, ofByte}
 use Rattle.pump.specs.Reports as reports
 use Rattle.pump.specs.declared.holder.Pump.{Pump}
 use Rattle.pump.specs.declared.reports.Refusal.{Refusal}
@@ -70,7 +70,7 @@ turned p x before =
 
 module _ (p : Pump) where
   unsound-down : (call : Call) → isSoundPump p ≡ false → outcomeOf p call ≡ down p Unsound (bufferBefore call)
-  unfolding byteReport byteBuffer pinCall tickCall
+  unfolding byteReport byteBuffer pinCall tickCall ofPin ofByte
   unsound-down (byteIn b buffer) e = rw e refl
   unsound-down (pinAt pin level) e = rw e refl
   unsound-down tickIn e = rw e refl
@@ -80,15 +80,15 @@ module _ (p : Pump) where
       → isSoundPump p ≡ true
       → length buffer < 24
       → outcomeOf p (byteIn b buffer) ≡ down p ShortBuffer buffer
-  unfolding byteReport byteBuffer
+  unfolding byteReport byteBuffer ofByte
   short-down b buffer e h = rw (e, lt-ltb (length buffer) 24 h) refl
 
   pin-down : (pin level : ℕ) → isSoundPump p ≡ true → isPin pin ≡ false → pinCall p pin level ≡ reports.refused p NoPin
-  unfolding pinCall
+  unfolding pinCall ofPin
   pin-down pin level e h = rw (e, h) refl
 
   level-down : (pin level : ℕ) → isSoundPump p ≡ true → isPin pin ≡ true → 1 < level → pinCall p pin level ≡ reports.refused p NoLevel
-  unfolding pinCall levelled
+  unfolding pinCall ofPin
   level-down pin level e k h = rw (e, k, lt-ltb 1 level h) refl
 
 pub refused-down : (p : Pump) (call : Call) (k : ℕ) → RefusedAs p call k → TurnedDown p k (bufferBefore call) (outcomeOf p call)

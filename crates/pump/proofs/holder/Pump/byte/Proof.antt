@@ -3,26 +3,23 @@
 use lib.ListN.{length, length-map}
 use native.Mathlib.Omega.{arith}
 use Prim.Native.Nat.{_≤_}
-use Rattle.pump.proofs.Calling.{handy-now, bytes}
+use Rattle.pump.proofs.Calling.{byte-handy, byte-refused, byte-kept, byte-answered, byte-written}
 use borrow.Author.Needs.{needs}
 use Rattle.pump.proofs.holder.Pump.byte.Statement.{statement}
 use Rattle.pump.proofs.holder.Pump.byte.Tie as tie
 
 returns : tie.Need-returns
-returns c = search bytes
+returns c = search (byte-refused, byte-kept)
 
 hear-requires : tie.Need-hear-requires
 hear-requires c κs =
-    let first = c .before .before .before .before in
+    let first = c .before .before .before .before .before in
     let full = simp length-map at (first .good .0 .1 .1 .0 .1 .0 .1) in
     let few : length (first .args .self .phases) ≤ 99 = omega (arith, full) in
-    search handy-now
+    search byte-handy
 
 returns-2 : tie.Need-returns-2
-returns-2 c = search bytes
-
-returns-3 : tie.Need-returns-3
-returns-3 c = search bytes
+returns-2 c = search (byte-answered, byte-written)
 
 pub byte-spec : {M : Type 1} → statement M
 byte-spec =
@@ -30,10 +27,10 @@ byte-spec =
     (tie.spec
     (λ c κs. search needs)
     (λ c κs. tt)
+    (λ c κs. search needs)
+    (λ c κs. tt)
     returns
     hear-requires
     (λ c κs. tt)
     (λ c. search needs)
-    returns-2
-    (λ c κs. tt)
-    returns-3)
+    returns-2)

@@ -1,8 +1,8 @@
--- `is_refused` meets its contract: the number of a refusal is not 0.
+-- `Refusal::is_refused` meets its contract: the number of a refusal is not 0.
 -- Assumes nothing.
 use borrow.Author.Needs.{needs}
-use Rattle.bench.proofs.rigs.is_refused.Statement.{statement}
-use Rattle.bench.proofs.rigs.is_refused.Tie as tie
+use Rattle.pump.proofs.reports.Refusal.is_refused.Statement.{statement}
+use Rattle.pump.proofs.reports.Refusal.is_refused.Tie as tie
 
 returns : tie.Need-returns
 returns c = rw (c .number .ensures)

@@ -31,7 +31,7 @@ pub extern "C" fn proved_ticks(ticks: u32, table: u32) -> u64 {
 fn running(table: u32) -> Pump {
     let mut phases = [bare(Function::Stp); 41];
     let mut n: u8 = 0;
-    while n < 41 {
+    while n < Pump::PHASES {
         let at = n as usize;
         n += 1;
         phases[at] = phase_of(table, n);

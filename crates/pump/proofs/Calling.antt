@@ -6,13 +6,13 @@ use mathlib.Core.Logic.{_⊎_, inl, inr, ⊎-elim}
 use mathlib.Core.Bool.{Bool, true, false}
 use mathlib.Core.List.{List}
 use native.Mathlib.Omega.{arith}
-use lib.Dec.{eqb}
+use lib.Dec.{leb, eqb}
 use lib.ListN.{length}
 use borrow.Author.Tests.{lt-ltb, le-ltb, ne-eqb}
 use Rattle.base.specs.If.{if_then_else_}
 use Rattle.base.proofs.Choices.{false-true}
 use Rattle.words.specs.declared.answers.Said.{Said}
-use Rattle.words.specs.declared.answers.Said.the-variants as s
+use Rattle.words.specs.declared.answers.Said.the-variants.{Nothing}
 use Rattle.words.specs.declared.phases.Phase.{Phase}
 use Rattle.program.specs.Runs.{isOperating}
 use Rattle.program.specs.Statuses.{inHand}
@@ -22,9 +22,9 @@ use Rattle.tick.specs.declared.Moved.{Moved}
 use Rattle.line.specs.Lines.{afterByte}
 use Rattle.line.specs.declared.lines.Arrived.{Arrived}
 use Rattle.line.specs.declared.lines.Line.{Line}
-use Rattle.answer.specs.Answers.{room, lengthIn}
+use Rattle.answer.specs.Answers.{room, lengthIn, bufferAfter}
 use Rattle.pump.specs.Calls as calls
-use Rattle.pump.specs.Calls.{Handy, tickCall, pinCall, saying, afterLine, hear, answered, answeredBuffer}
+use Rattle.pump.specs.Calls.{Handy, tickCall, pinCall, saying, afterLine, hear, answered, answeredBuffer, received, receivedBuffer}
 use Rattle.pump.specs.Calls.{byteReport, byteBuffer}
 use Rattle.pump.specs.Device.{withLine, edge, hearLine, said}
 use Rattle.pump.specs.Holder.{phaseCount, phaseAt, hereOf, withDevice, edited, isSoundPump, checked}
@@ -175,14 +175,16 @@ module _ (p : Pump) (u : Bool) (s : u ≡ isSoundPump p) (x : Refusal) (t : Bool
     unfolding byteBuffer
     byte-kept h = sym (simp (byte-tested ∙ h))
 
-    module _ (h : t ≡ false) (l : Listened) (heard : l ≡ hear p b) where
-      pub byte-answered : r ≡ answered l buffer → r ≡ byteReport p b buffer
+    module _ (h : t ≡ false) where
+      pub byte-received : r ≡ received p b buffer → r ≡ byteReport p b buffer
       unfolding byteReport
-      byte-answered q = q ∙ ap (λ (w : Listened). answered w buffer) heard ∙ sym (simp (byte-tested ∙ h))
+      byte-received q = q ∙ sym (simp (byte-tested ∙ h))
 
-      pub byte-written : (after : List ℕ) → after ≡ answeredBuffer l buffer → after ≡ byteBuffer p b buffer
+      pub byte-written : (after : List ℕ) → after ≡ receivedBuffer p b buffer → after ≡ byteBuffer p b buffer
       unfolding byteBuffer
-      byte-written after q = q ∙ ap (λ (w : Listened). answeredBuffer w buffer) heard ∙ sym (simp (byte-tested ∙ h))
+      byte-written after q = q ∙ sym (simp (byte-tested ∙ h))
+
+pub ruleset bytes-called = (byte-refused, byte-kept, byte-received, byte-written)
 
 -- ---- what is said is framed
 pub answered-report :
@@ -212,19 +214,49 @@ pub listened-as :
 unfolding afterLine
 listened-as p n here next h held after l full a b d g k q e = rw (e, q, k, g, b, d, a, full)
 
--- ---- a byte that is heard
-module _ (p : Pump) (b : ℕ) (a : Arrived) (v : Device)
+-- where nothing is said nothing is written
+silent-length : (buffer : List ℕ) → 0 ≡ lengthIn 0 Nothing buffer
+unfolding lengthIn
+silent-length buffer = by (leb room (length buffer))
+  where
+    by : (t : Bool) → _≡_ {A = ℕ} 0 (if t then 0 else 0)
+    by true = refl
+    by false = refl
+
+silent-buffer : (buffer : List ℕ) → buffer ≡ bufferAfter 0 Nothing buffer
+unfolding bufferAfter
+silent-buffer buffer = by (leb room (length buffer))
+  where
+    by : (t : Bool) → buffer ≡ (if t then buffer else buffer)
+    by true = refl
+    by false = refl
+
+-- ---- a byte that is received
+module _ (p : Pump) (b : ℕ) (buffer : List ℕ) (a : Arrived) (v : Device)
     (k : a ≡ afterByte (p .device .line) b) (g : v ≡ withLine (p .device) (a .line)) where
   held-is : withDevice p v ≡ calls.held p a
   held-is = ap (withDevice p) g
 
-  pub line-goes-on : a .ended ≡ false → record { pump = withDevice p v; said = s.Nothing } ≡ hear p b
-  unfolding hear
-  line-goes-on e =
-      ap (λ (x : Pump). record { pump = x; said = s.Nothing }) held-is ∙ sym (simp e) ∙ ap (calls.heardBy p) k
+  module _ (e : a .ended ≡ false) where
+    quiet : record { pump = withDevice p v; said = Nothing } ≡ hear p b
+    unfolding hear
+    quiet = ap (λ (x : Pump). record { pump = x; said = Nothing }) held-is ∙ sym (simp e) ∙ ap (calls.heardBy p) k
 
-  pub line-ends : (l : Listened) → l ≡ afterLine (withDevice p v) → a .ended ≡ true → l ≡ hear p b
-  unfolding hear
-  line-ends l m e = m ∙ ap afterLine held-is ∙ sym (simp e) ∙ ap (calls.heardBy p) k
+    pub line-goes-on : (r : Report) → r ≡ reported (withDevice p v) 0 → r ≡ received p b buffer
+    line-goes-on r q = q ∙ ap (reported (withDevice p v)) (silent-length buffer) ∙ ap (λ (x : Listened). answered x buffer) quiet
 
-pub ruleset arrivals = (line-goes-on, line-ends)
+    pub buffer-stays : buffer ≡ receivedBuffer p b buffer
+    buffer-stays = silent-buffer buffer ∙ ap (λ (x : Listened). answeredBuffer x buffer) quiet
+
+  module _ (l : Listened) (m : l ≡ afterLine (withDevice p v)) (e : a .ended ≡ true) where
+    heard : l ≡ hear p b
+    unfolding hear
+    heard = m ∙ ap afterLine held-is ∙ sym (simp e) ∙ ap (calls.heardBy p) k
+
+    pub line-ends : (r : Report) → r ≡ answered l buffer → r ≡ received p b buffer
+    line-ends r q = q ∙ ap (λ (x : Listened). answered x buffer) heard
+
+    pub buffer-written : (after : List ℕ) → after ≡ answeredBuffer l buffer → after ≡ receivedBuffer p b buffer
+    buffer-written after q = q ∙ ap (λ (x : Listened). answeredBuffer x buffer) heard
+
+pub ruleset arrivals = (line-goes-on, line-ends, buffer-stays, buffer-written)

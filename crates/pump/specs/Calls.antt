@@ -68,10 +68,15 @@ answered l buffer = reported (l .pump) (lengthIn 0 (l .said) buffer)
 abbrev pub answeredBuffer : Listened → List ℕ → List ℕ
 answeredBuffer l buffer = bufferAfter 0 (l .said) buffer
 
+abbrev pub received : Pump → ℕ → List ℕ → Report
+received p b buffer = answered (hear p b) buffer
+
+abbrev pub receivedBuffer : Pump → ℕ → List ℕ → List ℕ
+receivedBuffer p b buffer = answeredBuffer (hear p b) buffer
+
 -- ---- a byte; what is refused leaves the buffer as it was
 unfoldable pub byteReport : Pump → ℕ → List ℕ → Report
-byteReport p b buffer = unlessRefused p (ofByte (isSoundPump p) (length buffer)) (answered (hear p b) buffer)
+byteReport p b buffer = unlessRefused p (ofByte (isSoundPump p) (length buffer)) (received p b buffer)
 
 unfoldable pub byteBuffer : Pump → ℕ → List ℕ → List ℕ
-byteBuffer p b buffer =
-    if isRefused (ofByte (isSoundPump p) (length buffer)) then buffer else answeredBuffer (hear p b) buffer
+byteBuffer p b buffer = if isRefused (ofByte (isSoundPump p) (length buffer)) then buffer else receivedBuffer p b buffer

@@ -1,14 +1,14 @@
 // The calls: a byte, a pin level, a tick. Each tests the whole state first; no call has a precondition.
 ghost use mathlib.Core.Path.{_≡_};
-ghost use Rattle.pump.specs.Calls.{Handy, tickCall, pinCall, byteReport, byteBuffer, hear, afterLine, saying};
-ghost use Rattle.pump.specs.Calls.{answered, answeredBuffer};
+ghost use Rattle.pump.specs.Calls.{Handy, tickCall, pinCall, byteReport, byteBuffer, received, receivedBuffer};
+ghost use Rattle.pump.specs.Calls.{afterLine, saying, answered, answeredBuffer};
 use crate::device::Told;
 use crate::holder::Pump;
 use crate::reports::Refusal;
 use crate::reports::Report;
 use words::Said;
 
-// The pump after a byte, and what it says: a value, whatever frames it.
+// The pump after a whole line, and what it says: a value, whatever frames it.
 pub struct Listened {
     pub pump: Pump,
     pub said: Said,
@@ -58,23 +58,21 @@ impl Pump {
         if refusal.is_refused() {
             return self.refused(refusal);
         }
-        self.hear(b).answered(out)
+        self.received(b, out)
     }
 
-    // The byte goes to the line, and a line that it ends is heard.
-    fn hear(mut self, b: u8) -> Listened
+    // The byte goes to the line, and a line that it ends is heard. Where nothing is said no frame is made: a `Listened` at every byte would
+    // cost two copies of the pump.
+    fn received(mut self, b: u8, out: &mut [u8]) -> Report
         requires { ⌜ Handy self ⌝ }
-        ensures { λ r. ⌜ r ≡ hear self b ⌝ }
+        ensures { λ r. ⌜ (r ≡ received self b (now (out .entry))) × (now (out .exit) ≡ receivedBuffer self b (now (out .entry))) ⌝ }
     {
         let arrived = self.device.line.after_byte(b);
         self.device = self.device.with_line(arrived.line);
         if arrived.ended {
-            return self.after_line();
+            return self.after_line().answered(out);
         }
-        Listened {
-            pump: self,
-            said: Said::Nothing,
-        }
+        self.reported(0)
     }
 
     // The whole line is the one that the device holds: the phases that it may concern are looked up, and the edit is stored.

@@ -3,23 +3,23 @@
 use lib.ListN.{length, length-map}
 use native.Mathlib.Omega.{arith}
 use Prim.Native.Nat.{_≤_}
-use Rattle.pump.proofs.Calling.{byte-handy, byte-refused, byte-kept, byte-answered, byte-written}
+use Rattle.pump.proofs.Calling.{byte-handy, bytes-called}
 use borrow.Author.Needs.{needs}
 use Rattle.pump.proofs.holder.Pump.byte.Statement.{statement}
 use Rattle.pump.proofs.holder.Pump.byte.Tie as tie
 
 returns : tie.Need-returns
-returns c = search (byte-refused, byte-kept)
+returns c = search bytes-called
 
-hear-requires : tie.Need-hear-requires
-hear-requires c κs =
-    let first = c .before .before .before .before .before in
+received-requires : tie.Need-received-requires
+received-requires c κs =
+    let first = c .before .before .before .before .before .before in
     let full = simp length-map at (first .good .0 .1 .1 .0 .1 .0 .1) in
     let few : length (first .args .self .phases) ≤ 99 = omega (arith, full) in
     search byte-handy
 
 returns-2 : tie.Need-returns-2
-returns-2 c = search (byte-answered, byte-written)
+returns-2 c = search bytes-called
 
 pub byte-spec : {M : Type 1} → statement M
 byte-spec =
@@ -30,7 +30,6 @@ byte-spec =
     (λ c κs. search needs)
     (λ c κs. tt)
     returns
-    hear-requires
-    (λ c κs. tt)
+    received-requires
     (λ c. search needs)
     returns-2)

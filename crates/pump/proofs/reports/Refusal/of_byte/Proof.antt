@@ -1,7 +1,6 @@
 -- `Refusal::of_byte` meets its contract.
 -- Assumes nothing.
 use Rattle.pump.proofs.Calling.{bytes}
-use borrow.Author.Needs.{needs}
 use Rattle.pump.proofs.reports.Refusal.of_byte.Statement.{statement}
 use Rattle.pump.proofs.reports.Refusal.of_byte.Tie as tie
 

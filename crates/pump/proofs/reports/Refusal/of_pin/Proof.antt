@@ -1,7 +1,6 @@
 -- `Refusal::of_pin` meets its contract.
 -- Assumes nothing.
 use Rattle.pump.proofs.Calling.{pins}
-use borrow.Author.Needs.{needs}
 use Rattle.pump.proofs.reports.Refusal.of_pin.Statement.{statement}
 use Rattle.pump.proofs.reports.Refusal.of_pin.Tie as tie
 

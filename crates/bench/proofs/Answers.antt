@@ -12,7 +12,7 @@ use Rattle.answer.proofs.Lengths.{framed-length}
 use Rattle.answer.proofs.Theorems.{answer-length}
 use Rattle.words.specs.declared.answers.Said.{Said}
 use Rattle.words.specs.declared.answers.Said.the-variants as said
-use Rattle.pump.specs.Calls.{byteReport, hear, answered}
+use Rattle.pump.specs.Calls.{byteReport, hear, answered, received}
 use Rattle.pump.specs.Holder.{isSoundPump}
 use Rattle.pump.specs.Reports.{ofByte, isRefused, refused}
 use Rattle.pump.specs.declared.calls.Listened.{Listened}
@@ -30,7 +30,7 @@ answer-sized said.Nothing = inl refl
 answer-sized (said.Alarm a) = inr (omega (arith, framed-length 0 (bodyOf (said.Alarm a))), answer-length 0 (said.Alarm a))
 answer-sized (said.Answer status r) = inr (omega (arith, framed-length 0 (bodyOf (said.Answer status r))), answer-length 0 (said.Answer status r))
 
-heard-sized : (l : Listened) → Sized (answered l zeros .length)
+heard-sized : (l : Listened) → Sized (answered (l .pump) (l .said) zeros .length)
 unfolding lengthIn
 heard-sized l = answer-sized (l .said)
 
@@ -38,11 +38,11 @@ pub byte-sized : (p : Pump) (b : ℕ) → Sized (byteReport p b zeros .length)
 unfolding byteReport
 byte-sized p b = go (ofByte (isSoundPump p) (length zeros))
   where
-    by : (refusal : Refusal) (t : Bool) → Sized ((if t then refused p refusal else answered (hear p b) zeros) .length)
+    by : (refusal : Refusal) (t : Bool) → Sized ((if t then refused p refusal else received p b zeros) .length)
     by refusal true = inl refl
     by refusal false = heard-sized (hear p b)
 
-    go : (refusal : Refusal) → Sized ((if isRefused refusal then refused p refusal else answered (hear p b) zeros) .length)
+    go : (refusal : Refusal) → Sized ((if isRefused refusal then refused p refusal else received p b zeros) .length)
     go refusal = by refusal (isRefused refusal)
 
 pub sized : (p : Pump) (b : ℕ) (r : Report) → r ≡ byteReport p b zeros → Sized (r .length)

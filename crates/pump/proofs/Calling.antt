@@ -24,7 +24,7 @@ use Rattle.line.specs.declared.lines.Arrived.{Arrived}
 use Rattle.line.specs.declared.lines.Line.{Line}
 use Rattle.answer.specs.Answers.{room, lengthIn, bufferAfter}
 use Rattle.pump.specs.Calls as calls
-use Rattle.pump.specs.Calls.{Handy, tickCall, pinCall, saying, afterLine, hear, answered, answeredBuffer, received, receivedBuffer}
+use Rattle.pump.specs.Calls.{Handy, tickCall, pinCall, afterLine, hear, answered, received, receivedBuffer}
 use Rattle.pump.specs.Calls.{byteReport, byteBuffer}
 use Rattle.pump.specs.Device.{withLine, edge, hearLine, said}
 use Rattle.pump.specs.Holder.{phaseCount, phaseAt, hereOf, withDevice, edited, isSoundPump, checked}
@@ -188,31 +188,24 @@ pub ruleset bytes-called = (byte-refused, byte-kept, byte-received, byte-written
 
 -- ---- what is said is framed
 pub answered-report :
-    (l : Listened) (buffer : List ℕ) (n : ℕ) (r : Report) → n ≡ lengthIn 0 (l .said) buffer → r ≡ reported (l .pump) n → r ≡ answered l buffer
-answered-report l buffer n r q e = e ∙ ap (reported (l .pump)) q
+    (p : Pump) (x : Said) (buffer : List ℕ) (n : ℕ) (r : Report) → n ≡ lengthIn 0 x buffer → r ≡ reported p n → r ≡ answered p x buffer
+answered-report p x buffer n r q e = e ∙ ap (reported p) q
 
--- ---- what is said has the status after the command
-pub saying-as :
-    (p : Pump) (t : Told) (here : Phase) (x : Said)
-    → here ≡ hereOf p
-    → x ≡ said (p .device) t (here .direction)
-    → record { pump = p; said = x } ≡ saying p t
-saying-as p t here x h k = rw (k, h)
-
--- ---- a whole line
+-- ---- a whole line; what is said has the status after the command
 pub listened-as :
-    {count : ℕ} (p : Pump) (n : ℕ) (here next : Phase) (h : Heard) (held after : Pump) (l : Listened)
+    {count : ℕ} (p : Pump) (n : ℕ) (hand next current : Phase) (h : Heard) (held after : Pump) (x : Said)
     → phaseCount p ≡ count
     → n ≡ inHand (p .device .core)
-    → here ≡ phaseAt (p .phases) n
+    → hand ≡ phaseAt (p .phases) n
     → next ≡ phaseAt (p .phases) (n + 1)
-    → h ≡ hearLine (p .device) here (next .function) count
+    → h ≡ hearLine (p .device) hand (next .function) count
     → held ≡ withDevice p (h .device)
     → after ≡ edited held n (h .edit)
-    → l ≡ saying after (h .told)
-    → l ≡ afterLine p
+    → current ≡ hereOf after
+    → x ≡ said (after .device) (h .told) (current .direction)
+    → record { pump = after; said = x } ≡ afterLine p
 unfolding afterLine
-listened-as p n here next h held after l full a b d g k q e = rw (e, q, k, g, b, d, a, full)
+listened-as p n hand next current h held after x full a b d g k q e f = rw (f, e, q, k, g, b, d, a, full)
 
 -- where nothing is said nothing is written
 silent-length : (buffer : List ℕ) → 0 ≡ lengthIn 0 Nothing buffer
@@ -243,20 +236,20 @@ module _ (p : Pump) (b : ℕ) (buffer : List ℕ) (a : Arrived) (v : Device)
     quiet = ap (λ (x : Pump). record { pump = x; said = Nothing }) held-is ∙ sym (simp e) ∙ ap (calls.heardBy p) k
 
     pub line-goes-on : (r : Report) → r ≡ reported (withDevice p v) 0 → r ≡ received p b buffer
-    line-goes-on r q = q ∙ ap (reported (withDevice p v)) (silent-length buffer) ∙ ap (λ (x : Listened). answered x buffer) quiet
+    line-goes-on r q = q ∙ ap (reported (withDevice p v)) (silent-length buffer) ∙ ap (λ (x : Listened). answered (x .pump) (x .said) buffer) quiet
 
     pub buffer-stays : buffer ≡ receivedBuffer p b buffer
-    buffer-stays = silent-buffer buffer ∙ ap (λ (x : Listened). answeredBuffer x buffer) quiet
+    buffer-stays = silent-buffer buffer ∙ ap (λ (x : Listened). bufferAfter 0 (x .said) buffer) quiet
 
   module _ (l : Listened) (m : l ≡ afterLine (withDevice p v)) (e : a .ended ≡ true) where
     heard : l ≡ hear p b
     unfolding hear
     heard = m ∙ ap afterLine held-is ∙ sym (simp e) ∙ ap (calls.heardBy p) k
 
-    pub line-ends : (r : Report) → r ≡ answered l buffer → r ≡ received p b buffer
-    line-ends r q = q ∙ ap (λ (x : Listened). answered x buffer) heard
+    pub line-ends : (r : Report) → r ≡ answered (l .pump) (l .said) buffer → r ≡ received p b buffer
+    line-ends r q = q ∙ ap (λ (x : Listened). answered (x .pump) (x .said) buffer) heard
 
-    pub buffer-written : (after : List ℕ) → after ≡ answeredBuffer l buffer → after ≡ receivedBuffer p b buffer
-    buffer-written after q = q ∙ ap (λ (x : Listened). answeredBuffer x buffer) heard
+    pub buffer-written : (after : List ℕ) → after ≡ bufferAfter 0 (l .said) buffer → after ≡ receivedBuffer p b buffer
+    buffer-written after q = q ∙ ap (λ (x : Listened). bufferAfter 0 (x .said) buffer) heard
 
 pub ruleset arrivals = (line-goes-on, line-ends, buffer-stays, buffer-written)

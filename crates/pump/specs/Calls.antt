@@ -4,6 +4,7 @@ use mathlib.Core.List.{List}
 use lib.Dec.{eqb}
 use lib.ListN.{length}
 use Rattle.base.specs.If.{if_then_else_}
+use Rattle.words.specs.declared.answers.Said.{Said}
 use Rattle.words.specs.declared.answers.Said.the-variants as said
 use Rattle.program.specs.Statuses.{inHand}
 use Rattle.tick.specs.Ticks.{tick}
@@ -61,18 +62,15 @@ heardBy p a = if a .ended then afterLine (held p a) else record { pump = held p 
 unfoldable pub hear : Pump → ℕ → Listened
 hear p b = heardBy p (afterByte (p .device .line) b)
 
--- the report and the buffer of what is said: framed with our address, 0
-abbrev pub answered : Listened → List ℕ → Report
-answered l buffer = reported (l .pump) (lengthIn 0 (l .said) buffer)
-
-abbrev pub answeredBuffer : Listened → List ℕ → List ℕ
-answeredBuffer l buffer = bufferAfter 0 (l .said) buffer
+-- what is said is framed with our address, 0
+abbrev pub answered : Pump → Said → List ℕ → Report
+answered p x buffer = reported p (lengthIn 0 x buffer)
 
 abbrev pub received : Pump → ℕ → List ℕ → Report
-received p b buffer = answered (hear p b) buffer
+received p b buffer = answered (hear p b .pump) (hear p b .said) buffer
 
 abbrev pub receivedBuffer : Pump → ℕ → List ℕ → List ℕ
-receivedBuffer p b buffer = answeredBuffer (hear p b) buffer
+receivedBuffer p b buffer = bufferAfter 0 (hear p b .said) buffer
 
 -- ---- a byte; what is refused leaves the buffer as it was
 unfoldable pub byteReport : Pump → ℕ → List ℕ → Report

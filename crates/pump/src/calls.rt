@@ -1,7 +1,8 @@
 // The calls: a byte, a pin level, a tick. Each tests the whole state first; no call has a precondition.
 ghost use mathlib.Core.Path.{_≡_};
 ghost use Rattle.pump.specs.Calls.{Handy, tickCall, pinCall, byteReport, byteBuffer, received, receivedBuffer};
-ghost use Rattle.pump.specs.Calls.{afterLine, saying, answered, answeredBuffer};
+ghost use Rattle.pump.specs.Calls.{afterLine, answered};
+ghost use Rattle.answer.specs.Answers.{bufferAfter};
 use crate::device::Told;
 use crate::holder::Pump;
 use crate::reports::Refusal;
@@ -12,16 +13,6 @@ use words::Said;
 pub struct Listened {
     pub pump: Pump,
     pub said: Said,
-}
-
-impl Listened {
-    // Framed at the last moment, with our address.
-    fn answered(self, out: &mut [u8]) -> Report
-        ensures { λ r. ⌜ (r ≡ answered self (now (out .entry))) × (now (out .exit) ≡ answeredBuffer self (now (out .entry))) ⌝ }
-    {
-        let said = self.said;
-        self.pump.reported(answer::write(0, said, out))
-    }
 }
 
 impl Pump {
@@ -70,12 +61,15 @@ impl Pump {
         let arrived = self.device.line.after_byte(b);
         self.device = self.device.with_line(arrived.line);
         if arrived.ended {
-            return self.after_line().answered(out);
+            let listened = self.after_line();
+            let said = listened.said;
+            return listened.pump.answered(said, out);
         }
         self.reported(0)
     }
 
-    // The whole line is the one that the device holds: the phases that it may concern are looked up, and the edit is stored.
+    // The whole line is the one that the device holds: the phases that it may concern are looked up, and the edit is stored. The status is
+    // that after the command. (In a function of its own it would have the compiler move the pump field by field, at every byte.)
     fn after_line(mut self) -> Listened
         requires { ⌜ Handy self ⌝ }
         ensures { λ r. ⌜ r ≡ afterLine self ⌝ }
@@ -88,13 +82,7 @@ impl Pump {
         let edit = heard.edit;
         let told = heard.told;
         self = self.with_device(heard.device);
-        self.edited(n, edit).saying(told)
-    }
-
-    // The status is that after the command.
-    fn saying(self, told: Told) -> Listened
-        ensures { λ r. ⌜ r ≡ saying self told ⌝ }
-    {
+        self = self.edited(n, edit);
         let current = self.phase_at(self.device.core.run.place.current);
         let direction = current.direction;
         let said = self.device.said(told, direction);
@@ -102,5 +90,12 @@ impl Pump {
             pump: self,
             said: said,
         }
+    }
+
+    // Framed at the last moment, with our address.
+    fn answered(self, said: Said, out: &mut [u8]) -> Report
+        ensures { λ r. ⌜ (r ≡ answered self said (now (out .entry))) × (now (out .exit) ≡ bufferAfter 0 said (now (out .entry))) ⌝ }
+    {
+        self.reported(answer::write(0, said, out))
     }
 }

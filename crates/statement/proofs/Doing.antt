@@ -14,7 +14,7 @@ use Rattle.words.specs.declared.answers.Said.{Said}
 use Rattle.program.specs.declared.state.Core.{Core}
 use Rattle.answer.specs.Answers.{answerOf, lengthIn, bufferAfter}
 use Rattle.answer.proofs.Theorems.{length-kept}
-use Rattle.pump.specs.Calls.{ticked, pinCall, hear, answered, answeredBuffer, byteReport, byteBuffer}
+use Rattle.pump.specs.Calls.{ticked, pinCall, hear, answered, byteReport, byteBuffer}
 use Rattle.pump.specs.Device.{edgeOf, edge}
 use Rattle.pump.specs.Holder.{isSoundPump}
 use Rattle.pump.specs.Reports.{ofPin, ofByte, reported}
@@ -108,11 +108,11 @@ module _ (before : List ℕ) (h : 24 ≤ length before) where
       }
 
   module _ (p : Pump) (b : ℕ) (e : isSoundPump p ≡ true) where
-    report-heard : byteReport p b before ≡ answered (heard p b) before
+    report-heard : byteReport p b before ≡ answered (heard p b .pump) (heard p b .said) before
     unfolding byteReport ofByte hear
     report-heard = simp (e, le-ltb (length before) 24 h) refl
 
-    buffer-heard : byteBuffer p b before ≡ answeredBuffer (heard p b) before
+    buffer-heard : byteBuffer p b before ≡ bufferAfter 0 (heard p b .said) before
     unfolding byteBuffer ofByte hear
     buffer-heard = simp (e, le-ltb (length before) 24 h) refl
 

@@ -13,7 +13,7 @@ add-phase-at c = let few : c .before .in-hand .result ≤ 100 = search few-in-ha
 
 returns : tie.Need-returns
 returns c =
-    let full = simp length-map at (c .before .before .before .before .before .before .before .good .0 .1 .1 .0 .1 .0 .1) in
+    let full = simp length-map at (c .before .before .before .before .before .before .before .before .good .0 .1 .1 .0 .1 .0 .1) in
     search listened-as
 
 pub after-line-spec : {M : Type 1} → statement M
@@ -25,6 +25,7 @@ after-line-spec =
     add-phase-at
     (λ c κs. tt)
     (λ c κs. search needs)
+    (λ c κs. tt)
     (λ c κs. tt)
     (λ c κs. tt)
     (λ c κs. tt)

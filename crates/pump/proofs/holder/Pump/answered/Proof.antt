@@ -1,9 +1,9 @@
--- `Listened::answered` meets its contract.
+-- `Pump::answered` meets its contract.
 -- Assumes nothing.
 use Rattle.pump.proofs.Calling.{answered-report}
 use borrow.Author.Needs.{needs}
-use Rattle.pump.proofs.calls.Listened.answered.Statement.{statement}
-use Rattle.pump.proofs.calls.Listened.answered.Tie as tie
+use Rattle.pump.proofs.holder.Pump.answered.Statement.{statement}
+use Rattle.pump.proofs.holder.Pump.answered.Tie as tie
 
 returns : tie.Need-returns
 returns c = search answered-report

@@ -33,7 +33,6 @@ use Rattle.pump.specs.declared.calls.Listened.{Listened}
 use Rattle.pump.specs.declared.checks.Checked.{Checked}
 use Rattle.pump.specs.declared.device.Device.{Device}
 use Rattle.pump.specs.declared.device.Heard.{Heard}
-use Rattle.pump.specs.declared.device.Told.{Told}
 use Rattle.pump.specs.declared.holder.Pump.{Pump}
 use Rattle.pump.specs.declared.reports.Refusal.{Refusal}
 use Rattle.pump.specs.declared.reports.Refusal.the-variants.{Accepted, ShortBuffer, NoPin, NoLevel, Unsound}

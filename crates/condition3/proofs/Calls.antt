@@ -39,13 +39,13 @@ use Rattle.pump.specs.declared.calls.Listened.{Listened}
 use Rattle.pump.specs.declared.device.Device.{Device}
 use Rattle.pump.specs.declared.holder.Pump.{Pump}
 use Rattle.statement.specs.Facts.{coreOf, runOf, underWay}
-use Rattle.statement.specs.Histories.{Call, byteIn, pinAt, tickIn, bufferBefore}
+use Rattle.statement.specs.Histories.{Call, byteIn, pinAt, tickIn, bufferBefore, Event, eventOf}
 use Rattle.statement.specs.Outcomes as out
 use Rattle.statement.specs.Outcomes.{Outcome, outcomeOf, TurnedDown, Still, TickDone, tickAt, Edge, two, four, six, Levelled, pumpWithCore}
 use Rattle.statement.specs.Outcomes.{emptied, obeying, carriedOut, Hears, collected, other-address, alarm-pending, resets, obeys, Does, Meets}
 use Rattle.statement.proofs.Outcomes.{call-meets}
 use Rattle.statement.proofs.Placing.{placed-at}
-use Rattle.condition3.specs.Observations.{Event, eventOf, isTick, clears, ofWay}
+use Rattle.condition3.specs.Observations.{isTick, clears, ofWay}
 use Rattle.condition3.proofs.Catalogue.{Stays}
 use Rattle.condition3.proofs.Clearing.{Books, total, no-return, not-ours, not-asked, not-five, all-hold, books-by, books-same}
 use Rattle.condition3.proofs.Giving.{told, tick-gives}

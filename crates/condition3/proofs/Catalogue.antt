@@ -12,7 +12,8 @@ use Rattle.program.specs.declared.state.Work.the-variants.{Entering, Visiting, 
 use Rattle.pump.specs.Holder.{hereOf}
 use Rattle.pump.specs.declared.holder.Pump.{Pump}
 use Rattle.statement.specs.Facts.{coreOf, underWay}
-use Rattle.condition3.specs.Observations.{Event, behindIt, begins, ends, works, stepsReported}
+use Rattle.statement.specs.Histories.{Event}
+use Rattle.condition3.specs.Observations.{behindIt, begins, ends, works, stepsReported}
 use Rattle.condition3.specs.Condition.{InVisit}
 
 -- the volume of the phase in place, in femtolitres, and how many steps of it fit

@@ -13,7 +13,8 @@ use Rattle.dispense.specs.Ledgers.{totalOf}
 use Rattle.line.specs.Lines.{addressIn, commandIn}
 use Rattle.pump.specs.declared.holder.Pump.{Pump}
 use Rattle.statement.specs.Facts.{coreOf}
-use Rattle.condition3.specs.Observations.{Event, behindIt, isAccepted, endsLine, clears, stepsTold, volumeOf}
+use Rattle.statement.specs.Histories.{Event}
+use Rattle.condition3.specs.Observations.{behindIt, isAccepted, endsLine, clears, stepsTold, volumeOf}
 use Rattle.condition3.proofs.Giving.{no-more, none-told}
 
 abbrev pub total : Direction → Pump → ℕ

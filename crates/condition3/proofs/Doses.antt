@@ -16,11 +16,11 @@ use Rattle.pump.specs.declared.holder.Pump.{Pump}
 use Rattle.pump.specs.declared.reports.Report.{Report}
 use Rattle.pump.proofs.Kept.{sound-tick}
 use Rattle.statement.specs.Facts.{runOf, underWay}
-use Rattle.statement.specs.Histories.{Call, byteIn, pinAt, tickIn, reportAfter, after, Model, Whole}
+use Rattle.statement.specs.Histories.{Call, byteIn, pinAt, tickIn, reportAfter, after, Model, Whole, Event, eventOf, trace}
 use Rattle.statement.proofs.Always.{call-whole}
 use Rattle.statement.proofs.Soundness.{sound-facts}
 use Rattle.statement.proofs.Wholes.{fresh-whole}
-use Rattle.condition3.specs.Observations.{Event, eventOf, trace, Every, noted, isTick, begins, ends, stepsReported, Dose, seen, doses}
+use Rattle.condition3.specs.Observations.{Every, noted, isTick, begins, ends, stepsReported, Dose, seen, doses}
 use Rattle.condition3.specs.Observations.{stepsIn, stepsGiven}
 use Rattle.condition3.specs.Condition.{Fits, Newest, InVisit, Present}
 use Rattle.condition3.proofs.Following.{follows, every-event}

@@ -40,8 +40,8 @@ use Rattle.pump.specs.Reports.{movedBy}
 use Rattle.pump.specs.declared.holder.Pump.{Pump}
 use Rattle.pump.specs.declared.reports.Refusal.the-variants.{Accepted}
 use Rattle.statement.specs.Facts.{coreOf, runOf, underWay}
-use Rattle.statement.specs.Histories.{tickIn}
-use Rattle.condition3.specs.Observations.{Event, begins, ends, works, stepsReported}
+use Rattle.statement.specs.Histories.{tickIn, Event}
+use Rattle.condition3.specs.Observations.{begins, ends, works, stepsReported}
 use Rattle.condition3.proofs.Calls.{stays-none}
 use Rattle.condition3.proofs.Catalogue.{sizeOf, aimOf, Told, rests, opens, passes, visit-is}
 

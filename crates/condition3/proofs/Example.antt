@@ -7,8 +7,8 @@ use mathlib.Core.List.{List, [], _∷_, _++_}
 use Rattle.base.specs.Rows.{Gives}
 use Rattle.drive.specs.declared.directions.Direction.the-variants.{Infuse}
 use Rattle.pump.specs.Holder.{modelPhases, freshPump}
-use Rattle.statement.specs.Histories.{Call}
-use Rattle.condition3.specs.Observations.{trace, clears, volume, sinceCleared, begins, ends, stepsReported, seen, doses}
+use Rattle.statement.specs.Histories.{Call, trace}
+use Rattle.condition3.specs.Observations.{clears, volume, sinceCleared, begins, ends, stepsReported, seen, doses}
 use Rattle.condition3.specs.Sending.{line, lines, ticksIn}
 use Rattle.condition3.proofs.Opening.{opened}
 

@@ -3,9 +3,9 @@
 -- Assumes nothing.
 use mathlib.Core.List.{List, [], _∷_}
 use Rattle.pump.specs.declared.holder.Pump.{Pump}
-use Rattle.statement.specs.Histories.{Call, reportAfter, after, Whole}
+use Rattle.statement.specs.Histories.{Call, reportAfter, after, Whole, Event, eventOf, trace}
 use Rattle.statement.proofs.Always.{call-whole}
-use Rattle.condition3.specs.Observations.{Event, eventOf, trace, noted, Every}
+use Rattle.condition3.specs.Observations.{noted, Every}
 
 module _ {M : Type 0} (note : M → Event → M) (Agree : Pump → M → Type 0)
     (keeps : (p : Pump) (m : M) (c : Call) → Agree p m → Agree (reportAfter p c .pump) (note m (eventOf p c))) where

@@ -5,8 +5,7 @@ use mathlib.Core.Path.{_≡_, refl, ap, _∙_}
 use mathlib.Core.List.{List, [], _∷_, _++_}
 use native.Mathlib.Nat.{zero-add, suc-add}
 use Rattle.pump.specs.declared.holder.Pump.{Pump}
-use Rattle.statement.specs.Histories.{Call, tickIn, reportAfter, after}
-use Rattle.condition3.specs.Observations.{Event, eventOf, trace}
+use Rattle.statement.specs.Histories.{Call, tickIn, reportAfter, after, Event, eventOf, trace}
 use Rattle.condition3.specs.Sending.{ticksIn}
 
 pub after-both : (p : Pump) (a b : List Call) → after p (a ++ b) ≡ after (after p a) b

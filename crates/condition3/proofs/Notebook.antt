@@ -18,9 +18,9 @@ use Rattle.program.specs.declared.state.Work.the-variants.{Entering, Visiting, 
 use Rattle.pump.specs.Holder.{hereOf}
 use Rattle.pump.specs.declared.holder.Pump.{Pump}
 use Rattle.statement.specs.Facts.{coreOf, underWay}
-use Rattle.statement.specs.Histories.{Whole}
+use Rattle.statement.specs.Histories.{Whole, Event}
 use Rattle.statement.proofs.Soundness.{sound-facts}
-use Rattle.condition3.specs.Observations.{Event, Every, behindIt, begins, ends, stepsReported, Dose, newDose, counted, seen}
+use Rattle.condition3.specs.Observations.{Every, behindIt, begins, ends, stepsReported, Dose, newDose, counted, seen}
 use Rattle.condition3.specs.Observations.{stepsIn}
 use Rattle.condition3.specs.Condition.{Fits, Newest, Present}
 use Rattle.condition3.proofs.Catalogue.{sizeOf, aimOf, Alike, Told, rests, opens, passes, gives, finishes, visit-is}

@@ -60,5 +60,5 @@ unfolding read.isDigit read.isPoint read.plain read.digits read.points read.deci
     obeying.clearTotal
     device.isSoundDevice device.obeyed device.ours device.hearLine holder.phaseAt holder.withPhase holder.freshPhases holder.isSoundPhases
     holder.isSoundPump calls.tickCall calls.afterLine calls.hear calls.byteReport calls.byteBuffer reports.ofPin reports.ofByte
-    histories.after observations.trace observations.noted
+    histories.after histories.trace observations.noted
 opened = 0

@@ -11,13 +11,13 @@ use Rattle.drive.specs.declared.directions.Direction.the-variants.{Infuse, With
 use Rattle.loops.specs.declared.Loop.{Loop}
 use Rattle.pump.specs.Holder.{modelPhases, freshPump}
 use Rattle.pump.specs.declared.holder.Pump.{Pump}
-use Rattle.statement.specs.Histories.{Call, byteIn, pinAt, tickIn, after, Model, Whole}
+use Rattle.statement.specs.Histories.{Call, byteIn, pinAt, tickIn, after, Model, Whole, eventOf, trace}
 use Rattle.statement.specs.Outcomes.{Outcome, outcomeOf, TickDone}
 use Rattle.statement.proofs.Always.{model, sound-after}
 use Rattle.statement.proofs.Doing.{does}
 use Rattle.statement.proofs.Soundness.{sound-facts}
 use Rattle.statement.proofs.Wholes.{fresh-whole}
-use Rattle.condition3.specs.Observations.{eventOf, trace, Every}
+use Rattle.condition3.specs.Observations.{Every}
 use Rattle.condition3.specs.Condition.{FourSteps, ThreeLoops, Condition3}
 use Rattle.condition3.proofs.Calls.{Quiet, call-quiet}
 use Rattle.condition3.proofs.Doses.{doses-fit, doses-whole, steps-in, doses-present}

@@ -16,12 +16,12 @@ use Rattle.drive.specs.declared.directions.Direction.the-variants.{Infuse, With
 use Rattle.pump.specs.Holder.{hereOf, freshPump, isSoundPump}
 use Rattle.pump.specs.declared.holder.Pump.{Pump}
 use Rattle.statement.specs.Facts.{coreOf}
-use Rattle.statement.specs.Histories.{Call, byteIn, pinAt, tickIn, reportAfter, after, Model, Whole}
+use Rattle.statement.specs.Histories.{Call, byteIn, pinAt, tickIn, reportAfter, after, Model, Whole, Event, eventOf, trace}
 use Rattle.statement.specs.Outcomes.{Outcome, outcomeOf, TickDone, tickAt}
 use Rattle.statement.proofs.Always.{call-whole, sound-after}
 use Rattle.statement.proofs.Doing.{does}
 use Rattle.statement.proofs.Wholes.{fresh-whole}
-use Rattle.condition3.specs.Observations.{Event, eventOf, trace, isTick, clears, volumeOf, volume, since, sinceCleared, ofWay}
+use Rattle.condition3.specs.Observations.{isTick, clears, volumeOf, volume, since, sinceCleared, ofWay}
 use Rattle.condition3.specs.Observations.{stepsTold, ruled, addedUp, ruledVolume}
 use Rattle.condition3.specs.Condition.{Ruled}
 use Rattle.condition3.proofs.Calls.{call-quiet, call-books}

@@ -14,7 +14,8 @@ use Rattle.program.specs.Runs.{isVisiting}
 use Rattle.pump.specs.declared.holder.Pump.{Pump}
 use Rattle.pump.specs.Holder.{hereOf}
 use Rattle.statement.specs.Facts.{underWay, loopsOf}
-use Rattle.condition3.specs.Observations.{Event, Every, stepsTold, volume, sinceCleared, works, stepsReported, Dose, doses}
+use Rattle.statement.specs.Histories.{Event}
+use Rattle.condition3.specs.Observations.{Every, stepsTold, volume, sinceCleared, works, stepsReported, Dose, doses}
 use Rattle.condition3.specs.Observations.{stepsIn, stepsGiven, ruled, addedUp, ruledVolume}
 
 -- ---- the steps of every report are those that the rules give, where x is the volume that they give up to it   (01, What a bidder's proof

@@ -28,22 +28,7 @@ use Rattle.pump.specs.Reports.{refusalNumber}
 use Rattle.pump.specs.declared.holder.Pump.{Pump}
 use Rattle.pump.specs.declared.reports.Report.{Report}
 use Rattle.statement.specs.Facts.{underWay}
-use Rattle.statement.specs.Histories.{Call, byteIn, pinAt, tickIn, reportAfter, bufferBehind}
-
--- ==== The event and the trace: each call with the state before it, what it handed back, and the buffer behind it   (01, Calls)
-pub record Event : Type 0 where
-  pub before : Pump
-  pub call : Call
-  pub report : Report
-  pub behind : List ℕ
-
-abbrev pub eventOf : Pump → Call → Event
-eventOf p c = record { before = p; call = c; report = reportAfter p c; behind = bufferBehind p c }
-
--- the events of a list of calls, the first one first
-unfoldable pub trace : Pump → List Call → List Event
-trace p [] = []
-trace p (c ∷ cs) = eventOf p c ∷ trace (reportAfter p c .pump) cs
+use Rattle.statement.specs.Histories.{Call, byteIn, pinAt, tickIn, Event}
 
 -- what an observer with a notebook has written after a list of events, who writes after each
 unfoldable pub noted : {M : Type 0} → (M → Event → M) → M → List Event → M

@@ -10,9 +10,9 @@ use Rattle.program.specs.declared.state.Pending.the-variants.{NoAlarm}
 use Rattle.pump.specs.declared.reports.Report.{Report}
 use Rattle.pump.specs.Holder.{modelPhases}
 use Rattle.statement.specs.Facts.{runOf}
-use Rattle.statement.specs.Histories.{Call, after}
+use Rattle.statement.specs.Histories.{Call, after, Event, trace}
 use Rattle.statement.proofs.Always.{model, sound-after}
-use Rattle.condition3.specs.Observations.{Event, Every, trace, stepsReported, stepsGiven}
+use Rattle.condition3.specs.Observations.{Every, stepsReported, stepsGiven}
 use Rattle.condition3.specs.Sending.{lines, ticksIn}
 use Rattle.condition3.proofs.Joining.{trace-both, ticks-both}
 use Rattle.condition3.proofs.Opening.{opened}

@@ -12,9 +12,8 @@ use Rattle.program.specs.declared.state.Pending.the-variants.{NoAlarm}
 use Rattle.pump.specs.Holder.{modelPhases}
 use Rattle.pump.specs.declared.holder.Pump.{Pump}
 use Rattle.statement.specs.Facts.{runOf}
-use Rattle.statement.specs.Histories.{after, Whole}
+use Rattle.statement.specs.Histories.{after, Whole, trace}
 use Rattle.statement.proofs.Always.{model, whole-after}
-use Rattle.condition3.specs.Observations.{trace}
 use Rattle.condition3.specs.Sending.{lines, ticksIn}
 use Rattle.condition3.proofs.Joining.{after-both, trace-both}
 use Rattle.condition3.proofs.Opening.{opened}

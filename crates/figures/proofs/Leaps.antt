@@ -26,10 +26,10 @@ use Rattle.pump.specs.declared.holder.Pump.{Pump}
 use Rattle.pump.specs.declared.reports.Report.{Report}
 use Rattle.pump.proofs.Kept.{sound-tick}
 use Rattle.statement.specs.Facts.{coreOf, runOf, underWay}
-use Rattle.statement.specs.Histories.{Call, after, Whole}
+use Rattle.statement.specs.Histories.{Call, after, Whole, Event, trace}
 use Rattle.statement.specs.Outcomes.{pumpWithCore}
 use Rattle.statement.proofs.Always.{after-whole}
-use Rattle.condition3.specs.Observations.{Event, Every, isAccepted, trace, tickTaken}
+use Rattle.condition3.specs.Observations.{Every, isAccepted, tickTaken}
 use Rattle.condition3.specs.Sending.{ticksIn}
 use Rattle.condition3.proofs.Joining.{after-both, trace-both, ticks-both}
 use Rattle.condition3.proofs.Pauses.{InPause, Passing, behindPause, pause-ends, pause-passes}

@@ -14,7 +14,8 @@ use Rattle.program.specs.Runs.{isOperating, isEntering}
 use Rattle.program.specs.declared.state.Run.{Run}
 use Rattle.pump.specs.Holder.{modelPhases, freshPump}
 use Rattle.pump.specs.declared.holder.Pump.{Pump}
-use Rattle.condition3.specs.Observations.{Event, trace, tickTaken, stepsGiven}
+use Rattle.statement.specs.Histories.{Event, trace}
+use Rattle.condition3.specs.Observations.{tickTaken, stepsGiven}
 use Rattle.condition3.specs.Sending.{lines, ticksIn}
 
 -- the pump just switched on, from which every row goes   (01, Commands: Power-up)

@@ -1,4 +1,5 @@
--- Histories of calls: what one call reports, the state after many, and the states that a history can reach.   (01, Calls)
+-- Histories of calls: what one call reports, the state after many, the events of a history, one for each call, and the states that a
+-- history can reach.   (01, Calls)
 use Prim.Native.Nat.{ℕ, _≤_}
 use mathlib.Core.Path.{_≡_}
 use mathlib.Core.Bool.{true}
@@ -37,6 +38,21 @@ bufferBehind p tickIn = []
 unfoldable pub after : Pump → List Call → Pump
 after p [] = p
 after p (c ∷ cs) = after (reportAfter p c .pump) cs
+
+-- ---- an event: a call with the state before it, what it handed back, and the buffer when it is over
+pub record Event : Type 0 where
+  pub before : Pump
+  pub call : Call
+  pub report : Report
+  pub behind : List ℕ
+
+abbrev pub eventOf : Pump → Call → Event
+eventOf p c = record { before = p; call = c; report = reportAfter p c; behind = bufferBehind p c }
+
+-- the events of a list of calls, the first one first
+unfoldable pub trace : Pump → List Call → List Event
+trace p [] = []
+trace p (c ∷ cs) = eventOf p c ∷ trace (reportAfter p c .pump) cs
 
 -- a model of the pump has 1 to 99 phases, as many as one or two digits can name   (01, Numbers: "Phase, count and whole second arguments
 -- have one or two digits")

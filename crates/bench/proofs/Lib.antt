@@ -1,9 +1,2 @@
--- Laws of the bench program, and that its table over bytes says what the lines of an input say.
-pub mod Decimals
-pub mod Prints
-pub mod Answers
-pub mod Acting
-pub mod Playing
-pub mod Onward
-pub mod Texts
-pub mod Itemised
+-- What the program knows of its input.
+pub mod Inputs

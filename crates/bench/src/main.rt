@@ -2,22 +2,13 @@
 // that was just switched on, and prints what comes of them. It is a filter: what a part of the input has to say is written before
 // more is read, and of the input no more is kept than where in a line it stands.
 //
-// What a byte of the script asks for is told by the crate `script`; here it is done.
-//
-//   rigs       the pump under test: what each act does to it and prints
-//   printing   lines, counts, the complaint
-//   feeding    the bytes of the input, one after the other, and its end
+// What the items do and print is the crate `player`; here it is read and written.
 ghost use mathlib.Core.Path.{_≡_};
-ghost use Rattle.bench.specs.Scripts.{play};
-
-mod feeding;
-mod printing;
-mod rigs;
-
-use feeding::Bench;
-use feeding::Fed;
+ghost use Rattle.player.specs.Scripts.{play};
 use libc::STDIN_FILENO;
 use libc::STDOUT_FILENO;
+use player::Bench;
+use player::Fed;
 
 fn main() {
     let mut bench = Bench::new();

@@ -1,4 +1,4 @@
--- What an input says: its lines, and the item of each. What the items do to the pump and print stands in bench/specs/Effects.antt.
+-- What an input says: its lines, and the item of each. What the items do to the pump and print stands in player/specs/Effects.antt.
 -- (01, Marked figures: the bench program; docs/DECISIONS.md, 29 to 31)
 use Prim.Native.Nat.{ℕ, _+_, _*_, _-_}
 use mathlib.Core.Bool.{Bool, true, false, _&&_}

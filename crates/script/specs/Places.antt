@@ -1,5 +1,5 @@
 -- Where in a line the input stands, and what a byte asks for there: how the program reads, a byte at a time. What an input says stands
--- in Items, line by line, and `itemised` (bench/proofs/Itemised.antt) says that the two are the same.   (01, Marked figures: the bench
+-- in Items, line by line, and `itemised` (player/proofs/Itemised.antt) says that the two are the same.   (01, Marked figures: the bench
 -- program; docs/DECISIONS.md, 29 to 31)
 use Prim.Native.Nat.{ℕ, _-_}
 use mathlib.Core.Bool.{Bool, true, false}

@@ -5,7 +5,7 @@ use lib.ListN.{length, length-take}
 use native.Mathlib.Omega.{arith}
 use borrow.Author.Needs.{needs}
 use Rattle.base.proofs.Writing.{wrote-length}
-use Rattle.bench.proofs.Playing.{Plays, plays-none, plays-fits, plays-less, plays-more, plays-all}
+use Rattle.bench.proofs.Inputs.{Plays, plays-none, plays-fits, plays-less, plays-more, plays-all}
 use Rattle.bench.proofs.play.Statement.{statement}
 use Rattle.bench.proofs.play.Tie as tie
 

@@ -1,4 +1,5 @@
--- The table over bytes says just what the lines and their items say: what the program prints for an input is `scriptOf` of it.
+-- The table over bytes says just what the lines and their items say: what the program prints for an input is `scriptOf` of it, and the
+-- pump that it leaves is the one behind the lines.
 -- Assumes nothing.
 use Prim.Native.Nat.{ℕ, zero, suc, _≤_}
 use mathlib.Core.Path.{_≡_, refl, sym, ap, _∙_}
@@ -16,7 +17,7 @@ use Rattle.script.specs.Items.{valueOf, upToBlank, pastBlank}
 use Rattle.script.specs.Items.{linesOf}
 use Rattle.player.specs.Effects.{itemLines, pumpAfter, allLines, pumpBehind, scriptOf}
 use Rattle.script.specs.Places.{inputEnd, afterSpot, kind}
-use Rattle.player.specs.Rigs.{setRig, setLines, runRig, runLines}
+use Rattle.player.specs.Rigs.{setRig, setLines, runRig, runLines, rigAfter}
 use Rattle.player.specs.Scripts.{benchAfter, play, says, closed, script}
 use Rattle.player.specs.declared.feeding.Bench.{Bench}
 use Rattle.script.specs.declared.places.Act.{Act}
@@ -153,6 +154,12 @@ bench-itemised p s = onward-bench (between p) s ∙ lines-itemised (length s) p 
 pub itemised : (s : List ℕ) → script s ≡ scriptOf s
 unfolding script scriptOf closed
 itemised s = ap (λ (o : Outcome). o .lines) (bench-itemised (freshPump modelPhases) s)
+
+-- ---- and so is the pump that is left when the input has ended
+pub rig-itemised :
+    (p : Pump) (s : List ℕ)
+    → rigAfter (play (between p) s .rig) (inputEnd (play (between p) s .place)) ≡ idle (pumpBehind p (linesOf s))
+rig-itemised p s = ap (λ (o : Outcome). o .left) (bench-itemised p s)
 
 -- ---- and it comes in time: at each newline all is printed that the lines up to it ask for, and the pump is as they leave it
 newline-starts : (w : Bench) (s : List ℕ) → play w (s ++ (10 ∷ [])) .place ≡ Start

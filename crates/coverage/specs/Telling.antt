@@ -1,24 +1,51 @@
--- What is read off the events of a history alone: the steps that their reports tell, and the lines that their answers are printed as.
--- (01, Marked figures: the bench program; Calls)
+-- What is read off the events of a history alone: the steps that their reports tell, the lines that their answers are printed as, whether
+-- a call was refused; and, with the items of an input, all that is printed for it.   (01, Marked figures: the bench program; Calls)
 use Prim.Native.Nat.{ℕ, _+_}
+use mathlib.Core.Bool.{Bool, false, _||_}
 use mathlib.Core.List.{List, [], _∷_, _++_}
+use lib.ListN.{length, take, drop}
+use Rattle.base.specs.If.{if_then_else_}
 use Rattle.drive.specs.declared.directions.Direction.{Direction}
 use Rattle.drive.specs.declared.directions.Direction.the-variants.{Infuse, Withdraw}
+use Rattle.pump.specs.Reports.{isRefused}
 use Rattle.pump.specs.declared.reports.Report.{Report}
+use Rattle.script.specs.Items.{Item, say, level, elapse, noItem, itemOf}
+use Rattle.player.specs.Effects.{orEmptyLine}
+use Rattle.player.specs.Printing.{complaintLine, countsLine}
 use Rattle.player.specs.Rigs.{answerLine}
 use Rattle.statement.specs.Histories.{Event}
+use Rattle.coverage.specs.Calls.{callsOf}
 
 -- the steps that a report tells in a direction
 abbrev pub stepsReported : Direction → Report → ℕ
 stepsReported Infuse r = r .infused
 stepsReported Withdraw r = r .withdrawn
 
--- the sum of those that all the reports tell
+-- ---- the sum of those that all the reports tell
 unfoldable pub stepsIn : Direction → List Event → ℕ
 stepsIn d [] = 0
 stepsIn d (e ∷ es) = stepsReported d (e .report) + stepsIn d es
 
--- what is printed for bytes: of each call the line of its answer, by its report and the buffer behind it
+-- ---- what is printed for bytes: of each call the line of its answer, by its report and the buffer behind it
 unfoldable pub answersIn : List Event → List ℕ
 answersIn [] = []
 answersIn (e ∷ es) = answerLine (e .report) (e .behind) ++ answersIn es
+
+-- ---- whether a call among them was refused
+unfoldable pub someRefused : List Event → Bool
+someRefused [] = false
+someRefused (e ∷ es) = isRefused (e .report .refusal) || someRefused es
+
+-- ---- what an item prints, by the events of its calls: answers, or an empty line where there is none; nothing for a pin; the counts
+-- ---- of ticks; and `!` for a refused call and for a line that is no item
+unfoldable pub itemTold : Item → List Event → List ℕ
+itemTold (say s) es = orEmptyLine (answersIn es)
+itemTold (level pin high) es = if someRefused es then complaintLine else []
+itemTold (elapse n) es = if someRefused es then complaintLine else countsLine n (stepsIn Infuse es) (stepsIn Withdraw es)
+itemTold noItem es = complaintLine
+
+-- ---- line by line: the first events, as many as the item has calls, are those of the first line
+unfoldable pub linesTold : List (List ℕ) → List Event → List ℕ
+linesTold [] es = []
+linesTold (line ∷ lines) es =
+    itemTold (itemOf line) (take (length (callsOf (itemOf line))) es) ++ linesTold lines (drop (length (callsOf (itemOf line))) es)

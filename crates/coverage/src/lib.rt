@@ -1,2 +1,2 @@
-// No code: what the bench program does with an input is a history of calls, and the answers and the counts of steps that it prints are read
-// off the events of that history, so that the theorems on every history speak of the one program that people run.
+// No code: what the bench program does with an input is a history of calls, and what it prints is read off the events of that history, so
+// that the theorems on every history speak of the one program that people run.

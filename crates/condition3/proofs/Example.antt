@@ -2,13 +2,14 @@
 -- Assumes nothing.
 use Prim.Native.Nat.{ℕ}
 use mathlib.Core.Path.{_≡_, refl}
-use mathlib.Core.Bool.{true, false}
 use mathlib.Core.List.{List, [], _∷_, _++_}
+use Rattle.base.specs.If.{if_then_else_}
 use Rattle.base.specs.Rows.{Gives}
 use Rattle.drive.specs.declared.directions.Direction.the-variants.{Infuse}
+use Rattle.loops.specs.declared.Loop.{Loop}
 use Rattle.pump.specs.Holder.{modelPhases, freshPump}
 use Rattle.statement.specs.Histories.{Call, trace}
-use Rattle.condition3.specs.Observations.{clears, volume, sinceCleared, begins, ends, stepsReported, seen, doses}
+use Rattle.condition3.specs.Books.{Books, Visit, visiting, isWhole, blank, books}
 use Rattle.condition3.specs.Sending.{line, lines, ticksIn}
 use Rattle.condition3.proofs.Opening.{opened}
 
@@ -16,8 +17,8 @@ use Rattle.condition3.proofs.Opening.{opened}
 abbrev dispensed : ℕ → List Call
 dispensed n = lines ("" ∷ "RAT200MH" ∷ "VOL1" ∷ "RUN" ∷ []) ++ ticksIn n
 
-abbrev infused : List Call → ℕ
-infused cs = volume Infuse (sinceCleared Infuse (trace (freshPump modelPhases) cs))
+abbrev booksAfter : List Call → Books
+booksAfter cs = books blank (trace (freshPump modelPhases) cs)
 
 abbrev pub rows : List (List Call × ℕ)
 rows =
@@ -34,8 +35,8 @@ rows =
     ∷ (dispensed 20 ++ line "DIA20", 981_750_000)
     ∷ []
 
-pub as-the-document : Gives infused rows
-unfolding opened ticksIn clears volume sinceCleared
+pub as-the-document : Gives (λ (cs : List Call). booksAfter cs .given Infuse) rows
+unfolding opened ticksIn
 as-the-document = refl
 
 -- ---- the same by the last phase of a pump of 99; one of fewer has no such phase, and both PHN and RUN are out of range
@@ -43,8 +44,8 @@ abbrev inLast : List Call
 inLast = lines ("" ∷ "PHN99" ∷ "FUNRAT" ∷ "RAT200MH" ∷ "VOL1" ∷ "RUN99" ∷ []) ++ ticksIn 20
 
 pub of-many-phases :
-    Gives (λ (n : ℕ). volume Infuse (sinceCleared Infuse (trace (freshPump n) inLast))) ((99, 981_750_000) ∷ (98, 0) ∷ (41, 0) ∷ [])
-unfolding opened ticksIn clears volume sinceCleared
+    Gives (λ (n : ℕ). books blank (trace (freshPump n) inLast) .given Infuse) ((99, 981_750_000) ∷ (98, 0) ∷ (41, 0) ∷ [])
+unfolding opened ticksIn
 of-many-phases = refl
 
 -- ---- three visits to a RAT phase at 10 mm, where a step has 0.019635 microlitres: one of 1.000 microlitres runs to its end, one of 0.019
@@ -58,12 +59,35 @@ visited =
     ++ ticksIn 5
     ++ lines ("STP" ∷ "VOL2.000" ∷ [])
 
+-- of each visit its volume, its steps, and 1 where it ended of itself
+abbrev pub figuresOf : List Visit → List (ℕ × ℕ × ℕ)
+figuresOf [] = []
+figuresOf (w ∷ ws) = (w .volume, w .steps, if isWhole (visiting w) then 1 else 0) ∷ figuresOf ws
+
 -- the newest first
 pub three-visits :
-    doses (trace (freshPump modelPhases) visited)
-    ≡ (record { volume = 1_000_000_000; v = 19_635_000; steps = 11; ended = false }
-    ∷ record { volume = 19_000_000; v = 19_635_000; steps = 0; ended = true }
-    ∷ record { volume = 1_000_000_000; v = 19_635_000; steps = 50; ended = true }
-    ∷ [])
-unfolding opened ticksIn begins ends stepsReported seen doses
+    figuresOf (booksAfter visited .past) ≡ ((1_000_000_000, 11, 0) ∷ (19_000_000, 0, 1) ∷ (1_000_000_000, 50, 1) ∷ [])
+unfolding opened ticksIn
 three-visits = refl
+
+-- ---- LPS in phases 1, 2 and 4, LOP 3 in phase 3, and phase 5 jumps to 1: the loop of phase 2 has its three passes and closes, and phase 1
+-- closes what is open and begins anew. Of each open loop its beginner and its passes, the newest first
+abbrev looped : ℕ → List Call
+looped n =
+    lines ("" ∷ "FUNLPS" ∷ "PHN2" ∷ "FUNLPS" ∷ "PHN3" ∷ "FUNLOP3" ∷ "PHN4" ∷ "FUNLPS" ∷ "PHN5" ∷ "FUNJMP1" ∷ "RUN" ∷ []) ++ ticksIn n
+
+abbrev pub openOf : List Loop → List (ℕ × ℕ)
+openOf [] = []
+openOf (l ∷ ls) = (l .begun, l .passes) ∷ openOf ls
+
+pub loops-booked :
+    Gives (λ (n : ℕ). openOf (booksAfter (looped n) .loops))
+    ((1, (1, 0) ∷ [])
+    ∷ (2, (2, 0) ∷ (1, 0) ∷ [])
+    ∷ (4, (2, 2) ∷ (1, 0) ∷ [])
+    ∷ (5, (1, 0) ∷ [])
+    ∷ (6, (4, 0) ∷ (1, 0) ∷ [])
+    ∷ (8, (1, 0) ∷ [])
+    ∷ [])
+unfolding opened ticksIn
+loops-booked = refl

@@ -1,19 +1,22 @@
--- Condition 3: what the observer has added up and the stored totals agree, the visits give what fits, and what holds of every event.
-pub mod Following
+-- Condition 3: every call keeps the pump and the observer's books in agreement; and wrong engines, which the condition refuses.
 pub mod Joining
 pub mod Stops
 pub mod Pauses
-pub mod Giving
-pub mod Clearing
-pub mod Turning
-pub mod Obeying
-pub mod Catalogue
-pub mod Calls
-pub mod Totals
-pub mod Notebook
+pub mod Views
+pub mod Noting
+pub mod Loops
+pub mod Sizes
+pub mod Ticks
 pub mod Entering
 pub mod Working
-pub mod Doses
+pub mod AnyTick
+pub mod Orders
+pub mod Quiet
+pub mod Turning
+pub mod Pins
+pub mod Obeying
+pub mod Bytes
 pub mod Theorem
 pub mod Opening
 pub mod Example
+pub mod WrongEngines

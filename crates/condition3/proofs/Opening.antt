@@ -35,7 +35,8 @@ use Rattle.pump.specs.Holder as holder
 use Rattle.pump.specs.Calls as calls
 use Rattle.pump.specs.Reports as reports
 use Rattle.statement.specs.Histories as histories
-use Rattle.condition3.specs.Observations as observations
+use Rattle.line.specs.Collected as collected
+use Rattle.condition3.specs.Books as books
 
 unfoldable pub opened : ℕ
 unfolding read.isDigit read.isPoint read.plain read.digits read.points read.decimals read.numberFrom read.wellFormed read.inThousandths
@@ -60,5 +61,5 @@ unfolding read.isDigit read.isPoint read.plain read.digits read.points read.deci
     obeying.clearTotal
     device.isSoundDevice device.obeyed device.ours device.hearLine holder.phaseAt holder.withPhase holder.freshPhases holder.isSoundPhases
     holder.isSoundPump calls.tickCall calls.afterLine calls.hear calls.byteReport calls.byteBuffer reports.ofPin reports.ofByte
-    histories.after histories.trace observations.noted
+    histories.after histories.trace collected.characters books.viewOf books.isObeyed books.clears books.drops books.noted books.books
 opened = 0

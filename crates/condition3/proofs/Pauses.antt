@@ -23,11 +23,10 @@ use Rattle.pump.specs.declared.reports.Refusal.the-variants.{Accepted}
 use Rattle.pump.specs.declared.reports.Report.{Report}
 use Rattle.pump.proofs.Kept.{sound-tick}
 use Rattle.statement.specs.Facts.{coreOf, runOf, underWay}
-use Rattle.statement.specs.Histories.{tickIn, after, Whole, Event, eventOf, trace}
+use Rattle.statement.specs.Histories.{tickIn, after, Whole, Event, eventOf, trace, Every}
 use Rattle.statement.specs.Outcomes.{pumpWithCore}
 use Rattle.statement.proofs.Always.{call-whole}
 use Rattle.statement.proofs.Soundness.{sound-iff}
-use Rattle.condition3.specs.Observations.{Every}
 use Rattle.condition3.specs.Sending.{ticksIn}
 
 -- a sound pump that runs and is in a timed pause with so many ticks left

@@ -15,8 +15,7 @@ use Rattle.pump.specs.declared.reports.Refusal.the-variants.{Accepted}
 use Rattle.pump.specs.declared.reports.Report.{Report}
 use Rattle.pump.proofs.Kept.{sound-tick}
 use Rattle.statement.specs.Facts.{coreOf, runOf}
-use Rattle.statement.specs.Histories.{after, Event, trace}
-use Rattle.condition3.specs.Observations.{Every}
+use Rattle.statement.specs.Histories.{after, Event, trace, Every}
 use Rattle.condition3.specs.Sending.{ticksIn}
 
 -- an event that is a tick of a stopped pump, and reports that pump and nothing else

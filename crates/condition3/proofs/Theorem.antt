@@ -1,71 +1,187 @@
 -- Condition 3 holds after any sequence of calls from power-up, refused ones among them, whatever the number of phases:
---     condition3        of a pump of n phases, 1 to 99
---     condition3-here   of this model
+--     condition3         of a pump of n phases, 1 to 99
+--     condition3-here    of this model
+--     stored-as-booked   what the pump stores and no query shows is what the observer has in his books
+--     line-after         so the line holds the characters since the last return, up to 40, and is over-long where there are more
 -- Assumes nothing.
 use Prim.Native.Nat.{ℕ, _+_, _≤_}
-use mathlib.Core.List.{List}
-use mathlib.Core.Path.{refl}
+use mathlib.Core.Path.{_≡_, refl, sym, ap, _∙_, subst}
+use mathlib.Core.List.{List, [], _∷_}
 use native.Mathlib.Omega.{arith}
-use lib.ListN.{length, take, length-take}
+use lib.ListN.{length-take}
+use lib.Dec.{eqb}
+use borrow.Author.Tests.{ne-eqb}
+use Rattle.base.specs.Text.{letter}
+use Rattle.base.proofs.Choices.{false-true}
+use Rattle.drive.specs.declared.directions.Direction.{Direction}
 use Rattle.drive.specs.declared.directions.Direction.the-variants.{Infuse, Withdraw}
-use Rattle.loops.specs.declared.Loop.{Loop}
+use Rattle.dispense.specs.Ledgers.{totalOf}
+use Rattle.line.specs.Collected.{collect, characters, Holds}
+use Rattle.line.specs.declared.lines.Line.{Line}
+use Rattle.line.proofs.Theorems.{collected}
 use Rattle.pump.specs.Holder.{modelPhases, freshPump}
 use Rattle.pump.specs.declared.holder.Pump.{Pump}
-use Rattle.statement.specs.Histories.{Call, byteIn, pinAt, tickIn, after, Model, Whole, eventOf, trace}
-use Rattle.statement.specs.Outcomes.{Outcome, outcomeOf, TickDone}
-use Rattle.statement.proofs.Always.{model, sound-after}
+use Rattle.statement.specs.Facts.{Sound, coreOf, runOf, loopsOf}
+use Rattle.statement.specs.Histories.{Call, byteIn, pinAt, tickIn, reportAfter, bufferBefore, after, Event, eventOf, trace, Every, Model}
+use Rattle.statement.specs.Outcomes.{outcomeOf, numberOf, TurnedDown}
+use Rattle.statement.proofs.Always.{model, call-whole}
 use Rattle.statement.proofs.Doing.{does}
+use Rattle.statement.proofs.Refusals.{Verdict, turns-down, takes, verdict, refused-down, refused-some}
 use Rattle.statement.proofs.Soundness.{sound-facts}
 use Rattle.statement.proofs.Wholes.{fresh-whole}
-use Rattle.condition3.specs.Observations.{Every}
-use Rattle.condition3.specs.Condition.{FourSteps, ThreeLoops, Condition3}
-use Rattle.condition3.proofs.Calls.{Quiet, call-quiet}
-use Rattle.condition3.proofs.Doses.{doses-fit, doses-whole, steps-in, doses-present}
-use Rattle.condition3.proofs.Following.{every-event}
-use Rattle.condition3.proofs.Giving.{tick-few}
-use Rattle.condition3.proofs.Totals.{reports-ruled, totals-ruled, totals-right}
+use Rattle.condition3.specs.Books.{Books, blank, books, noted, viewOf, deed, other, ofWay, told, ruledBy}
+use Rattle.condition3.specs.Condition.{Throughout, Dispensed, Goes, ThreeLoops, Condition3}
+use Rattle.condition3.specs.Stored.{Stored}
+use Rattle.condition3.proofs.AnyTick.{tick-steps}
+use Rattle.condition3.proofs.Bytes.{byte-steps}
+use Rattle.condition3.proofs.Noting.{Kept, not-noted}
+use Rattle.condition3.proofs.Pins.{pin-steps}
+use Rattle.condition3.proofs.Quiet.{seen}
+use Rattle.condition3.proofs.Ticks.{Stepped, none-told}
+use Rattle.condition3.proofs.Views.{view-stopped, moving-on}
 
--- ---- no event reports more than four steps
-quiet-few : (p : Pump) (c : Call) → Quiet p c (outcomeOf p c) → FourSteps (eventOf p c)
-quiet-few p c q = omega (arith, q .none-infused, q .none-withdrawn)
-
-ticked-few : (p : Pump) → Whole p → (o : Outcome) → TickDone p o → o .report .infused + o .report .withdrawn ≤ 4
-ticked-few p w o t = omega (arith, tick-few p w, t .infused, t .withdrawn)
-
-call-few : (p : Pump) (c : Call) → Whole p → FourSteps (eventOf p c)
-call-few p (byteIn b buffer) w = quiet-few p (byteIn b buffer) (call-quiet p (byteIn b buffer) refl)
-call-few p (pinAt pin level) w = quiet-few p (pinAt pin level) (call-quiet p (pinAt pin level) refl)
-call-few p tickIn w = ticked-few p w (outcomeOf p tickIn) (does p tickIn (w .sound) tt)
-
-pub four-steps : (n : ℕ) → Model n → (cs : List Call) → Every FourSteps (trace (freshPump n) cs)
-four-steps n m cs = every-event FourSteps call-few (freshPump n) cs (fresh-whole n m)
-
--- ---- at most three loops are open, and no two were begun by the same phase
-few-taken : (n : ℕ) (l : List Loop) → n ≤ 3 → length (take n l) ≤ 3
-few-taken n l h = omega (arith, length-take n l)
-
-pub three-loops : (n : ℕ) → Model n → (cs : List Call) → ThreeLoops (after (freshPump n) cs)
-three-loops n m cs =
-    let s = sound-facts (after (freshPump n) cs) (sound-after n m cs) in
-    record { three = few-taken _ _ (s .three-loops); different-phases = s .different-phases }
-
--- ---- the whole
-pub condition3 : (n : ℕ) → Model n → (cs : List Call) → Condition3 (after (freshPump n) cs) (trace (freshPump n) cs)
-condition3 n m cs =
+-- ---- one call
+-- a refused call, which is no tick, leaves the pump and the books
+refused-steps :
+    (p : Pump) (b : Books)
+    → Kept p b
+    → (call : Call) (n : ℕ)
+    → deed b (seen p call (outcomeOf p call)) ≡ other
+    → (n ≡ 0 → ⊥)
+    → TurnedDown p n (bufferBefore call) (outcomeOf p call)
+    → Stepped b (eventOf p call)
+refused-steps p b k call n idle some t =
     record {
-      infused = totals-right n Infuse cs;
-      withdrawn = totals-right n Withdraw cs;
-      steps-infused = reports-ruled n m Infuse cs;
-      steps-withdrawn = reports-ruled n m Withdraw cs;
-      infused-ruled = totals-ruled n m Infuse cs;
-      withdrawn-ruled = totals-ruled n m Withdraw cs;
-      visits-fit = doses-fit n m cs;
-      in-visits = steps-in n m cs;
-      all-counted = doses-whole n m cs;
-      under-way = doses-present n m cs;
-      three-loops = three-loops n m cs;
-      four-steps = four-steps n m cs;
+      kept =
+          subst (Kept (reportAfter p call .pump))
+          (sym (not-noted b (eventOf p call) (ne-eqb (numberOf (outcomeOf p call)) 0 (λ e. some (sym (t .number) ∙ e)))))
+          (subst (λ (q : Pump). Kept q b) (sym (t .same-state)) k);
+      ruled =
+          λ d.
+          none-told d (reportAfter p call .infused) (reportAfter p call .withdrawn) (t .none-infused) (t .none-withdrawn)
+          ∙ ap (ruledBy d (b .given d)) (sym idle);
+      goes =
+          subst (Goes b (eventOf p call)) (sym idle)
+          (λ moving halt.
+          false-true
+          (sym (view-stopped p ∙ moving-on p moving) ∙ ap (λ (q : Pump). eqb (viewOf q .status) (letter "S")) (sym (t .same-state)) ∙ halt));
+      few = omega (arith, t .none-infused, t .none-withdrawn);
     }
+
+call-steps : (p : Pump) (b : Books) → Kept p b → (call : Call) → Stepped b (eventOf p call)
+call-steps p b k (byteIn x buffer) = go (verdict p (byteIn x buffer))
+  where
+    go : Verdict p (byteIn x buffer) → Stepped b (eventOf p (byteIn x buffer))
+    go (turns-down n r) = refused-steps p b k (byteIn x buffer) n refl (refused-some p _ n r) (refused-down p _ n r)
+    go (takes e f) =
+        byte-steps p b k x buffer f (outcomeOf p (byteIn x buffer)) (does p (byteIn x buffer) e f)
+        (call-whole p (byteIn x buffer) (k .whole))
+call-steps p b k (pinAt pin level) = go (verdict p (pinAt pin level))
+  where
+    go : Verdict p (pinAt pin level) → Stepped b (eventOf p (pinAt pin level))
+    go (turns-down n r) = refused-steps p b k (pinAt pin level) n refl (refused-some p _ n r) (refused-down p _ n r)
+    go (takes e f) =
+        pin-steps p b k pin level (outcomeOf p (pinAt pin level)) (does p (pinAt pin level) e f) (call-whole p (pinAt pin level) (k .whole))
+call-steps p b k tickIn = tick-steps p b k
+
+-- ---- any number of calls: the books and the pump, what holds of every event with the books before it, and of every event
+kept-after : (p : Pump) (b : Books) (cs : List Call) → Kept p b → Kept (after p cs) (books b (trace p cs))
+unfolding after trace books
+kept-after p b [] k = k
+kept-after p b (c ∷ cs) k = kept-after (reportAfter p c .pump) (noted b (eventOf p c)) cs (call-steps p b k c .kept)
+
+module _ (P : Books → Event → Type 0) (each : (b : Books) (e : Event) → Stepped b e → P b e) where
+  throughout : (p : Pump) (b : Books) (cs : List Call) → Kept p b → Throughout P b (trace p cs)
+  unfolding trace
+  throughout p b [] k = tt
+  throughout p b (c ∷ cs) k =
+      let s = call-steps p b k c in
+      (each b (eventOf p c) s, throughout (reportAfter p c .pump) (noted b (eventOf p c)) cs (s .kept))
+
+module _ (P : Event → Type 0) (each : (b : Books) (e : Event) → Stepped b e → P e) where
+  every : (p : Pump) (b : Books) (cs : List Call) → Kept p b → Every P (trace p cs)
+  unfolding trace
+  every p b [] k = tt
+  every p b (c ∷ cs) k =
+      let s = call-steps p b k c in
+      (each b (eventOf p c) s, every (reportAfter p c .pump) (noted b (eventOf p c)) cs (s .kept))
+
+-- ---- from power-up
+fresh-kept : (n : ℕ) → Model n → Kept (freshPump n) blank
+unfolding collect
+fresh-kept n m =
+    record {
+      whole = fresh-whole n m;
+      work = tt;
+      fits = tt;
+      loops = refl;
+      trap = refl;
+      four = refl;
+      line = refl;
+      totals = none-yet;
+    }
+  where
+    none-yet : (d : Direction) → totalOf (coreOf (freshPump n) .ledger) d ≡ 0
+    none-yet Infuse = refl
+    none-yet Withdraw = refl
+
+module _ (n : ℕ) (m : Model n) (cs : List Call) where
+  abbrev pub last : Pump
+  last = after (freshPump n) cs
+
+  abbrev pub events : List Event
+  events = trace (freshPump n) cs
+
+  kept : Kept last (books blank events)
+  kept = kept-after (freshPump n) blank cs (fresh-kept n m)
+
+  given : (d : Direction) → Dispensed d last events
+  given d =
+      record {
+        total = in-ledger d ∙ kept .totals d;
+        ruled =
+            throughout (λ b e. told d e ≡ ruledBy d (b .given d) (deed b e)) (λ b e s. s .ruled d) (freshPump n) blank cs (fresh-kept n m);
+      }
+    where
+      in-ledger :
+          (d : Direction)
+          → ofWay d (coreOf last .ledger .totals .infused) (coreOf last .ledger .totals .withdrawn) ≡ totalOf (coreOf last .ledger) d
+      in-ledger Infuse = refl
+      in-ledger Withdraw = refl
+
+  three-loops : ThreeLoops (loopsOf last) (books blank events .loops)
+  three-loops =
+      let sound : Sound last = sound-facts last (kept .whole .sound) in
+      record {
+        booked = kept .loops;
+        three = omega (arith, length-take (runOf last .loops .count) (runOf last .loops .slots), sound .three-loops);
+        different = sound .different-phases;
+      }
+
+  pub condition3 : Condition3 (after (freshPump n) cs) (trace (freshPump n) cs)
+  condition3 =
+      record {
+        given = given;
+        visits-fit = kept .fits;
+        none-silent = throughout (λ b e. Goes b e (deed b e)) (λ b e s. s .goes) (freshPump n) blank cs (fresh-kept n m);
+        three-loops = three-loops;
+        four-steps = every (λ e. told Infuse e + told Withdraw e ≤ 4) (λ b e s. s .few) (freshPump n) blank cs (fresh-kept n m);
+      }
+
+  pub line-after : Holds (last .device .line) (characters (books blank events .line))
+  line-after =
+      subst (λ (l : Line). Holds l (characters (books blank events .line))) (sym (kept .line)) (collected (books blank events .line))
+
+  pub stored-as-booked : Stored last (books blank events)
+  stored-as-booked =
+      record {
+        work = kept .work;
+        loops = kept .loops;
+        trap = kept .trap;
+        four = kept .four;
+        line = line-after;
+        totals = kept .totals;
+      }
 
 pub condition3-here : (cs : List Call) → Condition3 (after (freshPump modelPhases) cs) (trace (freshPump modelPhases) cs)
 condition3-here cs = condition3 modelPhases model cs

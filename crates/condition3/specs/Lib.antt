@@ -1,4 +1,6 @@
--- What an observer of the calls writes down, and condition 3, which is said of it.
-pub mod Observations
-pub mod Sending
+-- The observer's books, condition 3, which is said of them, and what is sent to a pump, for examples.
+pub mod Terms
+pub mod Books
 pub mod Condition
+pub mod Stored
+pub mod Sending

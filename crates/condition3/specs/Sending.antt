@@ -7,13 +7,14 @@ use Rattle.base.specs.Text.{text}
 use Rattle.answer.specs.Answers.{room}
 use Rattle.statement.specs.Histories.{Call, byteIn, tickIn}
 
--- the bytes of a text and then the return that ends the line, each with a buffer that has just room for an answer
-abbrev pub sent : List ℕ → List Call
-sent [] = byteIn 13 (replicate room 0) ∷ []
-sent (b ∷ bs) = byteIn b (replicate room 0) ∷ sent bs
+-- bytes, one after the other, each with a buffer that has just room for an answer
+abbrev pub bytesIn : List ℕ → List Call
+bytesIn [] = []
+bytesIn (b ∷ s) = byteIn b (replicate room 0) ∷ bytesIn s
 
+-- a text, and the return that ends the line
 abbrev pub line : String → List Call
-line t = sent (text t)
+line t = bytesIn (text t ++ 13 ∷ [])
 
 -- one line after the other
 abbrev pub lines : List String → List Call

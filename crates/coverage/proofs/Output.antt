@@ -5,7 +5,7 @@
 -- Assumes nothing.
 use Prim.Native.Nat.{ℕ, zero, suc}
 use mathlib.Core.Path.{_≡_, refl, sym, ap, ap₂, _∙_}
-use mathlib.Core.Bool.{Bool, true, false, _||_}
+use mathlib.Core.Bool.{Bool, false, or-false}
 use mathlib.Core.List.{List, [], _∷_, _++_}
 use lib.ListN.{length, take, drop}
 use Rattle.base.specs.If.{if_then_else_}
@@ -55,14 +55,11 @@ ticks-sound zero p = refl
 ticks-sound (suc n) p = ticks-sound n p
 
 -- ---- an item
-or-false : (t : Bool) → (t || false) ≡ t
-or-false true = refl
-or-false false = refl
-
 pub item-told : (p : Pump) (i : Item) → Whole p → itemLines p i ≡ itemTold i (trace p (callsOf i))
 unfolding callsOf itemTold trace someRefused
 item-told p (say s) w = ap orEmptyLine (answers-are-told p _)
-item-told p (level pin high) w = ap (λ (t : Bool). if t then complaintLine else []) (sym (or-false (isRefused (pinCall p pin high .refusal))))
+item-told p (level pin high) w =
+    ap (λ (t : Bool). if t then complaintLine else []) (sym (or-false (isRefused (pinCall p pin high .refusal))))
 item-told p (elapse n) w =
     rw
     (ticks-sound n p, w .sound, ticks-taken n p w)

@@ -2,7 +2,8 @@
 --     lines-history     from any pump, for any lines: the pump behind them is the one after their calls
 --     plays-history     the pump behind a script is the one after the calls of the script, from power-up
 --     program-history   and so is the pump that the program leaves, which plays the input byte by byte
---     program-whole     what holds after every history holds of it: it is sound
+--     program-whole     what holds after every history holds of it: it is sound,
+--     program-meets     and condition 3 holds of it and of the events of the script
 -- Assumes nothing.
 use Prim.Native.Nat.{ℕ, zero, suc}
 use mathlib.Core.Path.{_≡_, refl, sym, ap, subst, _∙_}
@@ -16,15 +17,17 @@ use Rattle.player.specs.Effects.{pumpSent, pumpAfter, pumpBehind}
 use Rattle.player.specs.Rigs.{reportOn}
 use Rattle.player.specs.declared.rigs.Rig.{Rig}
 use Rattle.player.proofs.Itemised.{rig-itemised}
-use Rattle.statement.specs.Histories.{Call, tickIn, after, Whole}
+use Rattle.statement.specs.Histories.{Call, tickIn, after, trace, Whole}
 use Rattle.statement.proofs.Always.{model, whole-after}
-use Rattle.condition3.specs.Sending.{ticksIn}
+use Rattle.condition3.specs.Condition.{Condition3}
+use Rattle.condition3.specs.Sending.{bytesIn, ticksIn}
 use Rattle.condition3.proofs.Joining.{after-both}
-use Rattle.coverage.specs.Calls.{bytesIn, callsOf, callsBy, callsIn, pumpLeft}
+use Rattle.condition3.proofs.Theorem.{condition3-here}
+use Rattle.coverage.specs.Calls.{callsOf, callsBy, callsIn, pumpLeft}
 
 -- ---- bytes
 pub bytes-history : (p : Pump) (s : List ℕ) → pumpSent p s ≡ after p (bytesIn s)
-unfolding pumpSent reportOn after bytesIn
+unfolding pumpSent reportOn after
 bytes-history p [] = refl
 bytes-history p (b ∷ s) = bytes-history (reportOn p b .pump) s
 
@@ -71,3 +74,7 @@ program-history s = ap (λ (g : Rig). g .pump) (rig-itemised (freshPump modelPha
 
 pub program-whole : (s : List ℕ) → Whole (pumpLeft s)
 program-whole s = subst Whole (sym (program-history s)) (whole-after modelPhases model (callsIn s))
+
+pub program-meets : (s : List ℕ) → Condition3 (pumpLeft s) (trace (freshPump modelPhases) (callsIn s))
+program-meets s =
+    subst (λ (p : Pump). Condition3 p (trace (freshPump modelPhases) (callsIn s))) (sym (program-history s)) (condition3-here (callsIn s))

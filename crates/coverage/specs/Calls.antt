@@ -4,17 +4,13 @@ use mathlib.Core.List.{List, [], _∷_, _++_}
 use Rattle.pump.specs.declared.holder.Pump.{Pump}
 use Rattle.script.specs.Items.{Item, say, level, elapse, noItem, linesOf, itemOf}
 use Rattle.script.specs.Places.{carriageReturn, inputEnd}
-use Rattle.player.specs.Rigs.{zeros, rigAfter}
+use Rattle.player.specs.Rigs.{rigAfter}
 use Rattle.player.specs.Scripts.{freshBench, play}
-use Rattle.statement.specs.Histories.{Call, byteIn, pinAt}
-use Rattle.condition3.specs.Sending.{ticksIn}
+use Rattle.statement.specs.Histories.{Call, pinAt}
+use Rattle.condition3.specs.Sending.{bytesIn, ticksIn}
 
--- bytes, one after the other, each with the buffer that the program hands in for its answer
-unfoldable pub bytesIn : List ℕ → List Call
-bytesIn [] = []
-bytesIn (b ∷ s) = byteIn b zeros ∷ bytesIn s
-
--- ---- the calls of an item: `>` and a text sends it with a return, `E pin level` sets a pin, `T n` runs n ticks; what is no item, none
+-- ---- the calls of an item: `>` and a text sends it with a return, each byte with a buffer of 24 zeros, `E pin level` sets a pin, `T n`
+-- runs n ticks; what is no item, none
 unfoldable pub callsOf : Item → List Call
 callsOf (say s) = bytesIn (s ++ (carriageReturn ∷ []))
 callsOf (level pin high) = pinAt pin high ∷ []

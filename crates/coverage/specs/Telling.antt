@@ -8,28 +8,23 @@ use Rattle.base.specs.If.{if_then_else_}
 use Rattle.drive.specs.declared.directions.Direction.{Direction}
 use Rattle.drive.specs.declared.directions.Direction.the-variants.{Infuse, Withdraw}
 use Rattle.pump.specs.Reports.{isRefused}
-use Rattle.pump.specs.declared.reports.Report.{Report}
 use Rattle.script.specs.Items.{Item, say, level, elapse, noItem, itemOf}
 use Rattle.player.specs.Effects.{orEmptyLine}
 use Rattle.player.specs.Printing.{complaintLine, countsLine}
 use Rattle.player.specs.Rigs.{answerLine}
 use Rattle.statement.specs.Histories.{Event}
+use Rattle.condition3.specs.Books.{told}
 use Rattle.coverage.specs.Calls.{callsOf}
 
--- the steps that a report tells in a direction
-abbrev pub stepsReported : Direction → Report → ℕ
-stepsReported Infuse r = r .infused
-stepsReported Withdraw r = r .withdrawn
-
--- ---- the sum of those that all the reports tell
-unfoldable pub stepsIn : Direction → List Event → ℕ
-stepsIn d [] = 0
-stepsIn d (e ∷ es) = stepsReported d (e .report) + stepsIn d es
+-- ---- the sum of the steps that all the reports tell in a direction
+unfoldable pub stepsTold : Direction → List Event → ℕ
+stepsTold d [] = 0
+stepsTold d (e ∷ es) = told d e + stepsTold d es
 
 -- ---- what is printed for bytes: of each call the line of its answer, by its report and the buffer behind it
 unfoldable pub answersIn : List Event → List ℕ
 answersIn [] = []
-answersIn (e ∷ es) = answerLine (e .report) (e .behind) ++ answersIn es
+answersIn (e ∷ es) = answerLine (e .report) (e .buffer) ++ answersIn es
 
 -- ---- whether a call among them was refused
 unfoldable pub someRefused : List Event → Bool
@@ -41,7 +36,7 @@ someRefused (e ∷ es) = isRefused (e .report .refusal) || someRefused es
 unfoldable pub itemTold : Item → List Event → List ℕ
 itemTold (say s) es = orEmptyLine (answersIn es)
 itemTold (level pin high) es = if someRefused es then complaintLine else []
-itemTold (elapse n) es = if someRefused es then complaintLine else countsLine n (stepsIn Infuse es) (stepsIn Withdraw es)
+itemTold (elapse n) es = if someRefused es then complaintLine else countsLine n (stepsTold Infuse es) (stepsTold Withdraw es)
 itemTold noItem es = complaintLine
 
 -- ---- line by line: the first events, as many as the item has calls, are those of the first line

@@ -1,64 +1,155 @@
--- Figures h and i: the steps of a run up to its end are all that there ever are.
+-- Figures f, h and i: the tick in which the visit ends, and that no other follows, however many more ticks go by: behind the visit one tick
+-- stops the pump, and the ticks of a stopped pump leave the visits in the observer's books as they are.
 -- Assumes nothing.
-use Prim.Native.Nat.{ℕ, _+_}
+use Prim.Native.Nat.{ℕ, zero, suc, _+_, _-_}
+use Prim.Native.Char.{Char}
 use Prim.Native.String.{String}
 use mathlib.Core.Path.{_≡_, refl, sym, ap, ap₂, _∙_}
+use mathlib.Core.Bool.{Bool, true, false, _||_}
 use mathlib.Core.List.{List, [], _∷_, _++_, append-assoc}
-use native.Mathlib.Nat.{add-zero, zero-add, add-assoc}
+use native.Mathlib.Nat.{add-zero}
+use native.Mathlib.Omega.{arith}
+use lib.ListN.{length}
+use Rattle.base.specs.If.{if_then_else_}
+use Rattle.program.specs.declared.state.Mode.{Mode}
 use Rattle.program.specs.declared.state.Mode.the-variants.{Stopped}
 use Rattle.program.specs.declared.state.Pending.the-variants.{NoAlarm}
+use Rattle.pump.specs.Holder.{modelPhases, isSoundPump}
+use Rattle.pump.specs.declared.holder.Pump.{Pump}
+use Rattle.pump.specs.Reports.{reported}
 use Rattle.pump.specs.declared.reports.Report.{Report}
-use Rattle.pump.specs.Holder.{modelPhases}
-use Rattle.statement.specs.Facts.{runOf}
-use Rattle.statement.specs.Histories.{Call, after, Event, trace}
+use Rattle.statement.specs.Facts.{runOf, underWay}
+use Rattle.statement.specs.Histories.{Call, byteIn, pinAt, tickIn, after, Event, trace, Every}
 use Rattle.statement.proofs.Always.{model, sound-after}
-use Rattle.condition3.specs.Observations.{Every, stepsReported, stepsGiven}
+use Rattle.condition3.specs.Books.{Books, Doing, nothing, Visit, viewOf, moves, other, enters, deedBy, doingBy, deed, drops}
+use Rattle.condition3.specs.Books.{allVisits, isWhole, blank, noted, books}
 use Rattle.condition3.specs.Sending.{lines, ticksIn}
 use Rattle.condition3.proofs.Joining.{trace-both, ticks-both}
 use Rattle.condition3.proofs.Opening.{opened}
+use Rattle.condition3.proofs.Views.{movesIn, view-moves}
 use Rattle.condition3.proofs.Stops.{Standing, stopped-stands}
-use Rattle.figures.specs.Figures.{tooLittle, justEnough, microlitre}
-use Rattle.figures.specs.Rows.{atPowerUp}
+use Rattle.figures.specs.Figures.{inMicrolitres, inMillilitres, tooLittle, justEnough, microlitre}
+use Rattle.figures.specs.Rows.{Agrees, atPowerUp, booksAfter, inProgress, over, visitsIn, dispenses}
 
--- ---- steps in two parts, and the steps of a stopped pump
-steps-both : (a b : List Event) → stepsGiven (a ++ b) ≡ stepsGiven a + stepsGiven b
-unfolding stepsGiven
-steps-both [] b = sym (zero-add _)
-steps-both (e ∷ a) b =
-    ap (λ (n : ℕ). stepsReported e + n) (steps-both a b) ∙ sym (add-assoc (stepsReported e) (stepsGiven a) (stepsGiven b))
+either : {A : Type 0} (t : Bool) (x : A) → (if t then x else x) ≡ x
+either true x = refl
+either false x = refl
 
-no-steps : (es : List Event) → Every Standing es → stepsGiven es ≡ 0
-unfolding stepsGiven stepsReported
-no-steps [] h = refl
-no-steps (e ∷ es) h =
-    ap₂ (λ (r : Report) (n : ℕ). r .infused + r .withdrawn + n) (h .0 .nothing) (no-steps es (h .1))
+-- the same visits are over, and none is under way
+record Rests (b c : Books) : Type 0 where
+  none : c .doing ≡ nothing
+  same : c .past ≡ b .past
 
--- ---- n ticks of a run, after which the pump is stopped, and k more
-all-given :
-    (ts : List String) (n steps : ℕ)
-    → runOf (after atPowerUp (lines ts ++ ticksIn n)) .mode ≡ Stopped NoAlarm
-    → stepsGiven (trace atPowerUp (lines ts ++ ticksIn n)) ≡ steps
-    → (k : ℕ)
-    → stepsGiven (trace atPowerUp (lines ts ++ ticksIn (n + k))) ≡ steps
-all-given ts n steps stops gives k =
-    ap (λ (cs : List Call). stepsGiven (trace atPowerUp (lines ts ++ cs))) (ticks-both n k)
-    ∙ ap (λ (cs : List Call). stepsGiven (trace atPowerUp cs)) (sym (append-assoc (lines ts) (ticksIn n) (ticksIn k)))
-    ∙ ap stepsGiven (trace-both atPowerUp (lines ts ++ ticksIn n) (ticksIn k))
-    ∙ steps-both (trace atPowerUp (lines ts ++ ticksIn n)) (trace (after atPowerUp (lines ts ++ ticksIn n)) (ticksIn k))
-    ∙ ap₂ (λ (a b : ℕ). a + b) gives
-    (no-steps (trace (after atPowerUp (lines ts ++ ticksIn n)) (ticksIn k))
-    (stopped-stands (after atPowerUp (lines ts ++ ticksIn n)) (sound-after modelPhases model (lines ts ++ ticksIn n)) NoAlarm stops k))
-    ∙ add-zero steps
+-- ---- one tick of a stopped pump
+module _ (b : Books) (e : Event) (h : Standing e) (idle : b .doing ≡ nothing) where
+  abbrev reporting : Report → Event
+  reporting r = record { before = e .before; call = e .call; report = r; buffer = e .buffer }
 
--- ---- the three runs
-pub none-fits : (k : ℕ) → stepsGiven (trace atPowerUp (lines tooLittle ++ ticksIn (2 + k))) ≡ 0
-unfolding opened ticksIn stepsGiven stepsReported tooLittle
-none-fits = all-given tooLittle 2 0 refl refl
+  abbrev silent : Event
+  silent = reporting (reported (e .before) 0)
 
-pub one-fits : (k : ℕ) → stepsGiven (trace atPowerUp (lines justEnough ++ ticksIn (3 + k))) ≡ 1
-unfolding opened ticksIn stepsGiven stepsReported justEnough
-one-fits = all-given justEnough 3 1 refl refl
+  -- S is neither I nor W
+  still : moves (viewOf (e .before)) ≡ false
+  still = view-moves (e .before) ∙ ap (λ (m : Mode). movesIn m (underWay (e .before))) (h .before-stopped)
 
-pub fifty-fit : (k : ℕ) → stepsGiven (trace atPowerUp (lines microlitre ++ ticksIn (20 + k))) ≡ 50
-unfolding opened ticksIn stepsGiven stepsReported microlitre
-fifty-fit = all-given microlitre 20 50 refl refl
+  none-begun : (c : Call) → doingBy nothing silent (deedBy nothing (viewOf (e .before)) c) ≡ nothing
+  none-begun (byteIn x buffer) = refl
+  none-begun (pinAt pin level) = refl
+  none-begun tickIn = ap (λ (t : Bool). doingBy nothing silent (if t then enters (viewOf (e .before)) else other)) still
+
+  none-now : doingBy (b .doing) silent (deed b silent) ≡ nothing
+  none-now =
+      ap (λ (x : Doing). doingBy x silent (deedBy x (viewOf (e .before)) (e .call))) idle ∙ none-begun (e .call)
+
+  rests : Rests b (noted b e)
+  unfolding noted
+  rests =
+      record {
+        none =
+            ap (λ (r : Report). noted b (reporting r) .doing) (h .nothing)
+            ∙ ap (λ (x : Doing). if isWhole x || drops b silent then nothing else x) none-now
+            ∙ either (drops b silent) nothing;
+        same =
+            ap (λ (r : Report). noted b (reporting r) .past) (h .nothing)
+            ∙ ap (λ (x : Doing). if isWhole x || drops b silent then allVisits x (b .past) else b .past) none-now
+            ∙ either (drops b silent) (b .past);
+      }
+
+-- and many
+all-rest : (es : List Event) (b : Books) → Every Standing es → b .doing ≡ nothing → Rests b (books b es)
+unfolding books
+all-rest [] b h idle = record { none = idle; same = refl }
+all-rest (e ∷ es) b h idle =
+    let one : Rests b (noted b e) = rests b e (h .0) idle in
+    let more : Rests (noted b e) (books (noted b e) es) = all-rest es (noted b e) (h .1) (one .none) in
+    record { none = more .none; same = more .same ∙ one .same }
+
+-- ---- n ticks of a run, behind which the pump is stopped, and k more
+books-both : (b : Books) (es fs : List Event) → books b (es ++ fs) ≡ books (books b es) fs
+unfolding books
+books-both b [] fs = refl
+books-both b (e ∷ es) fs = books-both (noted b e) es fs
+
+module _ (ts : List String) (n : ℕ) where
+  abbrev there : Pump
+  there = after atPowerUp (lines ts ++ ticksIn n)
+
+  books-then : (k : ℕ) → booksAfter ts (n + k) ≡ books (booksAfter ts n) (trace there (ticksIn k))
+  unfolding booksAfter
+  books-then k =
+      ap (λ (cs : List Call). books blank (trace atPowerUp cs))
+      (ap (λ (cs : List Call). lines ts ++ cs) (ticks-both n k) ∙ sym (append-assoc (lines ts) (ticksIn n) (ticksIn k)))
+      ∙ ap (books blank) (trace-both atPowerUp (lines ts ++ ticksIn n) (ticksIn k))
+      ∙ books-both blank (trace atPowerUp (lines ts ++ ticksIn n)) (trace there (ticksIn k))
+
+  for-ever :
+      runOf there .mode ≡ Stopped NoAlarm
+      → booksAfter ts n .doing ≡ nothing
+      → (k : ℕ)
+      → visitsIn (booksAfter ts (n + k)) ≡ visitsIn (booksAfter ts n)
+  for-ever stops idle k =
+      let sound : isSoundPump there ≡ true = sound-after modelPhases model (lines ts ++ ticksIn n) in
+      let stands : Every Standing (trace there (ticksIn k)) = stopped-stands there sound NoAlarm stops k in
+      let rest = all-rest (trace there (ticksIn k)) (booksAfter ts n) stands idle in
+      ap visitsIn (books-then k) ∙ ap₂ (λ (x : Doing) (ws : List Visit). inProgress x ∷ over ws) (rest .none ∙ sym idle) (rest .same)
+
+-- ---- a visit that ends in tick n, where the next tick stops the pump
+record Ends (ts : List String) (n steps : ℕ) : Type 0 where
+  before : booksAfter ts (n - 1) .past ≡ []
+  at-end : visitsIn (booksAfter ts n) ≡ (0 ∷ 1 ∷ steps ∷ [])
+  behind : visitsIn (booksAfter ts (n + 1)) ≡ (0 ∷ 1 ∷ steps ∷ [])
+  idle : booksAfter ts (n + 1) .doing ≡ nothing
+  stops : runOf (after atPowerUp (lines ts ++ ticksIn (n + 1))) .mode ≡ Stopped NoAlarm
+
+module _ (ts : List String) (n steps : ℕ) (h : Ends ts n steps) where
+  from-then : (k : ℕ) → visitsIn (booksAfter ts (n + k)) ≡ (0 ∷ 1 ∷ steps ∷ [])
+  from-then zero = ap (λ (m : ℕ). visitsIn (booksAfter ts m)) (add-zero n) ∙ h .at-end
+  from-then (suc k) =
+      let next : n + suc k ≡ n + 1 + k = omega arith in
+      ap (λ (m : ℕ). visitsIn (booksAfter ts m)) next ∙ for-ever ts (n + 1) (h .stops) (h .idle) k ∙ h .behind
+
+  ends : (mark : Char) → Agrees (dispenses mark ts n steps)
+  ends mark k = ap₂ (λ (ws : List Visit) (ns : List ℕ). length ws ∷ ns) (h .before) (from-then k)
+
+-- ---- the runs
+pub less-than-a-step : Agrees (dispenses "f" inMicrolitres 1 0)
+unfolding opened ticksIn booksAfter inMicrolitres
+less-than-a-step =
+    ends inMicrolitres 1 0 (record { before = refl; at-end = refl; behind = refl; idle = refl; stops = refl }) "f"
+
+pub a-thousand-times : Agrees (dispenses "f" inMillilitres 19 25)
+unfolding opened ticksIn booksAfter inMillilitres
+a-thousand-times =
+    ends inMillilitres 19 25 (record { before = refl; at-end = refl; behind = refl; idle = refl; stops = refl }) "f"
+
+pub none-fits : Agrees (dispenses "h" tooLittle 1 0)
+unfolding opened ticksIn booksAfter tooLittle
+none-fits = ends tooLittle 1 0 (record { before = refl; at-end = refl; behind = refl; idle = refl; stops = refl }) "h"
+
+pub one-fits : Agrees (dispenses "h" justEnough 2 1)
+unfolding opened ticksIn booksAfter justEnough
+one-fits = ends justEnough 2 1 (record { before = refl; at-end = refl; behind = refl; idle = refl; stops = refl }) "h"
+
+pub fifty-fit : Agrees (dispenses "i" microlitre 19 50)
+unfolding opened ticksIn booksAfter microlitre
+fifty-fit = ends microlitre 19 50 (record { before = refl; at-end = refl; behind = refl; idle = refl; stops = refl }) "i"

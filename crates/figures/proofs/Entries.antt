@@ -18,7 +18,7 @@ use Rattle.condition3.specs.Sending.{lines, ticksIn}
 use Rattle.condition3.proofs.Joining.{after-both, trace-both}
 use Rattle.condition3.proofs.Opening.{opened}
 use Rattle.figures.specs.Figures.{nested}
-use Rattle.figures.specs.Rows.{atPowerUp, enters, entries}
+use Rattle.figures.specs.Rows.{atPowerUp, entersPhase, entries}
 use Rattle.figures.proofs.Leaps.{Tally, True, waited, tally, tallying, tallied, for-ever, entries-both}
 
 -- what the lines leave: the five functions in their phases, and the program started
@@ -27,7 +27,7 @@ ready = after atPowerUp (lines nested)
 
 -- no byte enters a phase
 none-yet : entries 3 (trace atPowerUp (lines nested)) ≡ 0
-unfolding opened nested entries enters
+unfolding opened nested entries entersPhase
 none-yet = refl
 
 ready-whole : Whole ready

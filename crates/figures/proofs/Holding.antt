@@ -4,11 +4,11 @@ use Prim.Native.Nat.{ℕ}
 use mathlib.Core.Path.{_≡_, refl, ap}
 use mathlib.Core.List.{List, [], _∷_, map}
 use Rattle.base.specs.Text.{text}
-use Rattle.condition3.specs.Observations.{Every}
+use Rattle.statement.specs.Histories.{Every}
 use Rattle.condition3.proofs.Opening.{opened}
 use Rattle.figures.specs.Figures.{figures}
 use Rattle.figures.specs.Rows.{Row, Agrees, answerText}
-use Rattle.figures.proofs.Doses.{none-fits, one-fits, fifty-fit}
+use Rattle.figures.proofs.Doses.{less-than-a-step, a-thousand-times, none-fits, one-fits, fifty-fit}
 use Rattle.figures.proofs.Entries.{pause-entered}
 
 -- one row and then the others
@@ -26,19 +26,23 @@ figures-hold =
     (λ k. refl)
     then (λ k. refl)
     then (λ k. refl)
-    -- d, d, e
+    -- d, d, e, e
     then (λ k. refl)
     then (λ k. refl)
     then (λ k. refl)
-    -- f, f, g, g
+    then (λ k. refl)
+    -- f, f, f, f
     then (λ k. refl)
     then (λ k. refl)
+    then less-than-a-step
+    then a-thousand-times
+    -- g, g
     then (λ k. refl)
     then (λ k. refl)
     -- h, h, i
-    then (λ k. ap alone (none-fits k))
-    then (λ k. ap alone (one-fits k))
-    then (λ k. ap alone (fifty-fit k))
+    then none-fits
+    then one-fits
+    then fifty-fit
     -- j, j, k
     then (λ k. refl)
     then (λ k. refl)
@@ -48,6 +52,6 @@ figures-hold =
     then tt
 
 -- no letter is left out
-pub all-letters : map (λ (r : Row). r .mark) figures ≡ text "abcddeffgghhijjkl"
+pub all-letters : map (λ (r : Row). r .mark) figures ≡ text "abcddeeffffgghhijjkl"
 unfolding figures
 all-letters = refl

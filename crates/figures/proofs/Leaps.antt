@@ -26,15 +26,14 @@ use Rattle.pump.specs.declared.holder.Pump.{Pump}
 use Rattle.pump.specs.declared.reports.Report.{Report}
 use Rattle.pump.proofs.Kept.{sound-tick}
 use Rattle.statement.specs.Facts.{coreOf, runOf, underWay}
-use Rattle.statement.specs.Histories.{Call, after, Whole, Event, trace}
+use Rattle.statement.specs.Histories.{Call, after, Whole, Event, trace, Every}
 use Rattle.statement.specs.Outcomes.{pumpWithCore}
 use Rattle.statement.proofs.Always.{after-whole}
-use Rattle.condition3.specs.Observations.{Every, isAccepted, tickTaken}
 use Rattle.condition3.specs.Sending.{ticksIn}
 use Rattle.condition3.proofs.Joining.{after-both, trace-both, ticks-both}
 use Rattle.condition3.proofs.Pauses.{InPause, Passing, behindPause, pause-ends, pause-passes}
 use Rattle.condition3.proofs.Stops.{Standing, stopped-after, stopped-stands}
-use Rattle.figures.specs.Rows.{entering, enters, oneIf, entries}
+use Rattle.figures.specs.Rows.{isAccepted, tickTaken, entering, entersPhase, oneIf, entries}
 
 -- ---- one leap of a core, with the phases at hand, and the ticks that it stands for
 abbrev pub stepped : List Phase → Core → Core
@@ -73,8 +72,8 @@ pub entries-both : (phase : ℕ) (a b : List Event) → entries phase (a ++ b) �
 unfolding entries
 entries-both phase [] b = sym (zero-add _)
 entries-both phase (e ∷ a) b =
-    ap (λ (n : ℕ). oneIf (enters phase e) + n) (entries-both phase a b)
-    ∙ sym (add-assoc (oneIf (enters phase e)) (entries phase a) (entries phase b))
+    ap (λ (n : ℕ). oneIf (entersPhase phase e) + n) (entries-both phase a b)
+    ∙ sym (add-assoc (oneIf (entersPhase phase e)) (entries phase a) (entries phase b))
 
 pausing-none : (phase : ℕ) (r : Run) (left : ℕ) → r .place .work ≡ Pausing left → entering phase r ≡ false
 unfolding entering
@@ -85,18 +84,19 @@ stopped-none : (phase : ℕ) (r : Run) (alarm : Pending) → r .mode ≡ Stopped
 unfolding entering
 stopped-none phase r alarm e = ap (λ (x : Mode). isRunning x && (isEntering (r .place .work) && eqb (r .place .current) phase)) e
 
-not-entered : (phase : ℕ) (e : Event) → entering phase (runOf (e .before)) ≡ false → enters phase e ≡ false
-unfolding enters
+not-entered : (phase : ℕ) (e : Event) → entering phase (runOf (e .before)) ≡ false → entersPhase phase e ≡ false
+unfolding entersPhase
 not-entered phase e h = ap (λ (t : Bool). tickTaken e && t) h ∙ and-false (tickTaken e)
 
-passing-none : (phase : ℕ) (e : Event) → Passing e → enters phase e ≡ false
+passing-none : (phase : ℕ) (e : Event) → Passing e → entersPhase phase e ≡ false
 passing-none phase e h = not-entered phase e (pausing-none phase (runOf (e .before)) (h .left) (h .before-pausing))
 
-standing-none : (phase : ℕ) (e : Event) → Standing e → enters phase e ≡ false
+standing-none : (phase : ℕ) (e : Event) → Standing e → entersPhase phase e ≡ false
 standing-none phase e h = not-entered phase e (stopped-none phase (runOf (e .before)) (h .alarm) (h .before-stopped))
 
 none-entered :
-    (phase : ℕ) (P : Event → Type 0) → ((e : Event) → P e → enters phase e ≡ false) → (es : List Event) → Every P es → entries phase es ≡ 0
+    (phase : ℕ) (P : Event → Type 0) → ((e : Event) → P e → entersPhase phase e ≡ false) →
+    (es : List Event) → Every P es → entries phase es ≡ 0
 unfolding entries
 none-entered phase P none [] h = refl
 none-entered phase P none (e ∷ es) h =
@@ -109,7 +109,7 @@ record Leaps (phase : ℕ) (p : Pump) (n : ℕ) (q : Pump) : Type 0 where
 
 module _ (phase : ℕ) (p : Pump) (w : Whole p) where
   one-tick : Leaps phase p 1 (pumpWithCore p (stepped (p .phases) (coreOf p)))
-  unfolding after trace ticksIn entries enters
+  unfolding after trace ticksIn entries entersPhase
   one-tick =
       record {
         there = ap (λ (r : Report). r .pump) (sound-tick p (w .sound));
@@ -187,7 +187,8 @@ after-ticks p m n = ap (after p) (ticks-both m n) ∙ after-both p (ticksIn m) (
 
 entries-ticks :
     (phase : ℕ) (p : Pump) (m n : ℕ)
-    → entries phase (trace p (ticksIn (m + n))) ≡ entries phase (trace p (ticksIn m)) + entries phase (trace (after p (ticksIn m)) (ticksIn n))
+    → entries phase (trace p (ticksIn (m + n)))
+    ≡ entries phase (trace p (ticksIn m)) + entries phase (trace (after p (ticksIn m)) (ticksIn n))
 entries-ticks phase p m n =
     ap (λ (cs : List Call). entries phase (trace p cs)) (ticks-both m n)
     ∙ ap (entries phase) (trace-both p (ticksIn m) (ticksIn n))

@@ -8,3 +8,4 @@ pub mod Hearing
 pub mod Doing
 pub mod Outcomes
 pub mod Always
+pub mod Events

@@ -44,15 +44,20 @@ pub record Event : Type 0 where
   pub before : Pump
   pub call : Call
   pub report : Report
-  pub behind : List ℕ
+  pub buffer : List ℕ
 
 abbrev pub eventOf : Pump → Call → Event
-eventOf p c = record { before = p; call = c; report = reportAfter p c; behind = bufferBehind p c }
+eventOf p c = record { before = p; call = c; report = reportAfter p c; buffer = bufferBehind p c }
 
 -- the events of a list of calls, the first one first
 unfoldable pub trace : Pump → List Call → List Event
 trace p [] = []
 trace p (c ∷ cs) = eventOf p c ∷ trace (reportAfter p c .pump) cs
+
+-- what holds of every one in a list
+abbrev pub Every : {A : Type 0} → (A → Type 0) → List A → Type 0
+Every P [] = Unit {0}
+Every P (x ∷ xs) = P x × Every P xs
 
 -- a model of the pump has 1 to 99 phases, as many as one or two digits can name   (01, Numbers: "Phase, count and whole second arguments
 -- have one or two digits")

@@ -4,7 +4,7 @@ use Prim.Native.Nat.{ℕ, _+_, _≤_, _<_}
 use mathlib.Core.Path.{_≡_}
 use mathlib.Core.Logic.{_⊎_}
 use mathlib.Core.Bool.{Bool, true, false}
-use mathlib.Core.List.{List}
+use mathlib.Core.List.{List, [], _∷_}
 use lib.ListN.{length, getD}
 use Rattle.words.specs.declared.answers.Alarm.{Alarm}
 use Rattle.words.specs.declared.answers.Reply.the-variants as reply
@@ -33,7 +33,7 @@ use Rattle.pump.specs.declared.device.Told.the-variants as told
 use Rattle.pump.specs.declared.holder.Pump.{Pump}
 use Rattle.pump.specs.declared.reports.Report.{Report}
 use Rattle.statement.specs.Facts.{Sound, coreOf, runOf}
-use Rattle.statement.specs.Histories.{Call, byteIn, pinAt, tickIn, reportAfter, bufferBefore, bufferBehind}
+use Rattle.statement.specs.Histories.{Call, byteIn, pinAt, tickIn, reportAfter, bufferBefore, bufferBehind, Event}
 
 -- what a call hands back, and the buffer when it is over
 pub record Outcome : Type 0 where
@@ -186,3 +186,12 @@ Does p tickIn o = TickDone p o
 pub data Meets (p : Pump) (call : Call) (o : Outcome) : Type 0 where
   turned-down : (k : ℕ) → RefusedAs p call k → TurnedDown p k (bufferBefore call) o → Meets p call o
   accepted : ((k : ℕ) → RefusedAs p call k → ⊥) → Does p call o → Meets p call o
+
+-- ---- events: what an observer of a history has of a call is what its caller got, the refusal's number, the whole report and every byte of
+-- the buffer; and each call is given the state that the last one handed back
+abbrev pub Got : Event → Type 0
+Got e = Meets (e .before) (e .call) (record { report = e .report; buffer = e .buffer })
+
+abbrev pub Follows : Pump → List Event → Pump → Type 0
+Follows p [] q = p ≡ q
+Follows p (e ∷ es) q = (e .before ≡ p) × Follows (e .report .pump) es q

@@ -106,7 +106,7 @@ module _ (p : Pump) (b : Books) (k : Kept p b) (o : Outcome) (silent : o .report
 
   -- ---- pin 4: a falling edge fires a set trap, unless the pump is paused; a stopped one has none
   abbrev fired : Bool
-  fired = b .four && (b .trap && not (eqb (viewOf p .status) (letter "P")))
+  fired = firesBy b (seen p (pinAt 4 0) o) other
 
   fired-by : (t u : Bool) → coreOf p .pins .four ≡ t → isPausedIn (runOf p .mode) ≡ u → fired ≡ (t && (isSet (runOf p .trap) && not u))
   fired-by t u x y =

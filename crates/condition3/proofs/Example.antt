@@ -7,15 +7,17 @@ use Rattle.base.specs.If.{if_then_else_}
 use Rattle.base.specs.Rows.{Gives}
 use Rattle.drive.specs.declared.directions.Direction.the-variants.{Infuse}
 use Rattle.loops.specs.declared.Loop.{Loop}
+use Rattle.pump.specs.Calls.{inTurn, ticksCall}
 use Rattle.pump.specs.Holder.{modelPhases, freshPump}
-use Rattle.statement.specs.Histories.{Call, trace}
+use Rattle.pump.specs.Reports.{ofTicks}
+use Rattle.statement.specs.Histories.{Call, tickIn, ticksIn, trace, singleTicks, tickByTick}
 use Rattle.condition3.specs.Books.{Books, Visit, visiting, isWhole, blank, books}
-use Rattle.condition3.specs.Sending.{line, lines, ticksIn}
+use Rattle.condition3.specs.Sending.{line, lines}
 use Rattle.condition3.proofs.Opening.{opened}
 
 -- ---- the document's example: 50 steps of 19,635,000 fl in 19 ticks, and one tick more to stop
 abbrev dispensed : ℕ → List Call
-dispensed n = lines ("" ∷ "RAT200MH" ∷ "VOL1" ∷ "RUN" ∷ []) ++ ticksIn n
+dispensed n = lines ("" ∷ "RAT200MH" ∷ "VOL1" ∷ "RUN" ∷ []) ++ singleTicks n
 
 abbrev booksAfter : List Call → Books
 booksAfter cs = books blank (trace (freshPump modelPhases) cs)
@@ -36,17 +38,27 @@ rows =
     ∷ []
 
 pub as-the-document : Gives (λ (cs : List Call). booksAfter cs .given Infuse) rows
-unfolding opened ticksIn
+unfolding opened singleTicks
 as-the-document = refl
 
 -- ---- the same by the last phase of a pump of 99; one of fewer has no such phase, and both PHN and RUN are out of range
 abbrev inLast : List Call
-inLast = lines ("" ∷ "PHN99" ∷ "FUNRAT" ∷ "RAT200MH" ∷ "VOL1" ∷ "RUN99" ∷ []) ++ ticksIn 20
+inLast = lines ("" ∷ "PHN99" ∷ "FUNRAT" ∷ "RAT200MH" ∷ "VOL1" ∷ "RUN99" ∷ []) ++ singleTicks 20
 
 pub of-many-phases :
     Gives (λ (n : ℕ). books blank (trace (freshPump n) inLast) .given Infuse) ((99, 981_750_000) ∷ (98, 0) ∷ (41, 0) ∷ [])
-unfolding opened ticksIn
+unfolding opened singleTicks
 of-many-phases = refl
+
+-- ---- the example by one call of 19 ticks and a single tick, booked tick by tick; of 1,000,001 in a call none is done   (02, 1/12)
+abbrev atOnce : ℕ → List Call
+atOnce n = lines ("" ∷ "RAT200MH" ∷ "VOL1" ∷ "RUN" ∷ []) ++ ticksIn n ∷ tickIn ∷ []
+
+pub in-one-call :
+    Gives (λ (n : ℕ). books blank (tickByTick (trace (freshPump modelPhases) (atOnce n))) .given Infuse)
+    ((19, 981_750_000) ∷ (0, 0) ∷ (1_000_001, 0) ∷ [])
+unfolding opened singleTicks tickByTick ticksCall inTurn ofTicks
+in-one-call = refl
 
 -- ---- three visits to a RAT phase at 10 mm, where a step has 0.019635 microlitres: one of 1.000 microlitres runs to its end, one of 0.019
 -- ends at entry, and one is cut: the last setting is accepted while paused, which stops the pump
@@ -54,9 +66,9 @@ abbrev visited : List Call
 visited =
     dispensed 20
     ++ lines ("VOL0.019" ∷ "RUN" ∷ [])
-    ++ ticksIn 2
+    ++ singleTicks 2
     ++ lines ("VOL1.000" ∷ "RUN" ∷ [])
-    ++ ticksIn 5
+    ++ singleTicks 5
     ++ lines ("STP" ∷ "VOL2.000" ∷ [])
 
 -- of each visit its volume, its steps, and 1 where it ended of itself
@@ -67,14 +79,14 @@ figuresOf (w ∷ ws) = (w .volume, w .steps, if isWhole (visiting w) then 1 else
 -- the newest first
 pub three-visits :
     figuresOf (booksAfter visited .past) ≡ ((1_000_000_000, 11, 0) ∷ (19_000_000, 0, 1) ∷ (1_000_000_000, 50, 1) ∷ [])
-unfolding opened ticksIn
+unfolding opened singleTicks
 three-visits = refl
 
 -- ---- LPS in phases 1, 2 and 4, LOP 3 in phase 3, and phase 5 jumps to 1: the loop of phase 2 has its three passes and closes, and phase 1
 -- closes what is open and begins anew. Of each open loop its beginner and its passes, the newest first
 abbrev looped : ℕ → List Call
 looped n =
-    lines ("" ∷ "FUNLPS" ∷ "PHN2" ∷ "FUNLPS" ∷ "PHN3" ∷ "FUNLOP3" ∷ "PHN4" ∷ "FUNLPS" ∷ "PHN5" ∷ "FUNJMP1" ∷ "RUN" ∷ []) ++ ticksIn n
+    lines ("" ∷ "FUNLPS" ∷ "PHN2" ∷ "FUNLPS" ∷ "PHN3" ∷ "FUNLOP3" ∷ "PHN4" ∷ "FUNLPS" ∷ "PHN5" ∷ "FUNJMP1" ∷ "RUN" ∷ []) ++ singleTicks n
 
 abbrev pub openOf : List Loop → List (ℕ × ℕ)
 openOf [] = []
@@ -89,5 +101,5 @@ pub loops-booked :
     ∷ (6, (4, 0) ∷ (1, 0) ∷ [])
     ∷ (8, (1, 0) ∷ [])
     ∷ [])
-unfolding opened ticksIn
+unfolding opened singleTicks
 loops-booked = refl

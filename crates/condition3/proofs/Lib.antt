@@ -1,5 +1,4 @@
 -- Condition 3: every call keeps the pump and the observer's books in agreement; and wrong engines, which the condition refuses.
-pub mod Joining
 pub mod Stops
 pub mod Pauses
 pub mod Views

@@ -17,17 +17,17 @@ use Rattle.tick.specs.Working.{workPause}
 use Rattle.tick.specs.declared.Moved.{Moved}
 use Rattle.pump.specs.Calls.{tickCall}
 use Rattle.pump.specs.Holder.{hereOf}
-use Rattle.pump.specs.Reports.{reported, movedBy}
+use Rattle.pump.specs.Reports.{movedBy}
 use Rattle.pump.specs.declared.holder.Pump.{Pump}
 use Rattle.pump.specs.declared.reports.Refusal.the-variants.{Accepted}
 use Rattle.pump.specs.declared.reports.Report.{Report}
 use Rattle.pump.proofs.Kept.{sound-tick}
 use Rattle.statement.specs.Facts.{coreOf, runOf, underWay}
-use Rattle.statement.specs.Histories.{tickIn, after, Whole, Event, eventOf, trace, Every}
+use Rattle.statement.specs.Histories.{tickIn, after, Whole, Event, eventOf, trace, Every, singleTicks}
 use Rattle.statement.specs.Outcomes.{pumpWithCore}
 use Rattle.statement.proofs.Always.{call-whole}
 use Rattle.statement.proofs.Soundness.{sound-iff}
-use Rattle.condition3.specs.Sending.{ticksIn}
+use Rattle.condition3.proofs.Stops.{silentTick}
 
 -- a sound pump that runs and is in a timed pause with so many ticks left
 pub record InPause (p : Pump) (left : ℕ) : Type 0 where
@@ -46,7 +46,7 @@ behindPause p = pumpWithCore p (withRun (coreOf p) (goOn (runOf p)))
 pub record Passing (e : Event) : Type 0 where
   pub left : ℕ
   pub before-pausing : underWay (e .before) ≡ Pausing left
-  pub nothing : e .report ≡ reported (e .report .pump) 0
+  pub nothing : e .report ≡ silentTick (e .report .pump)
 
 -- a sound pause has a tick left
 pub some-left : (p : Pump) (left : ℕ) → InPause p left → 1 ≤ left
@@ -54,18 +54,18 @@ some-left p left h = (sound-iff p .0 (h .whole .sound)) .pause left (h .pausing)
 
 -- ---- one tick
 module _ (p : Pump) (left : ℕ) (h : InPause p left) where
-  works : tickCall p ≡ reported (pumpWithCore p (withRun (coreOf p) (workPause (runOf p) left))) 0
+  works : tickCall p ≡ silentTick (pumpWithCore p (withRun (coreOf p) (workPause (runOf p) left)))
   unfolding tick
   works =
       sound-tick p (h .whole .sound)
       ∙ ap (λ (m : Moved). movedBy p m Accepted)
       (ap (tickBy (coreOf p) (hereOf p)) (h .running) ∙ ap (workBy (coreOf p) (hereOf p)) (h .pausing))
 
-  counts-down : 1 < left → tickCall p ≡ reported (leaving p (left - 1)) 0
+  counts-down : 1 < left → tickCall p ≡ silentTick (leaving p (left - 1))
   unfolding workPause
   counts-down k = works ∙ rw (lt-leb left 1 k) refl
 
-  ends : left ≤ 1 → tickCall p ≡ reported (behindPause p) 0
+  ends : left ≤ 1 → tickCall p ≡ silentTick (behindPause p)
   unfolding workPause
   ends k = works ∙ rw (le-leb left 1 k) refl
 
@@ -85,47 +85,47 @@ module _ (p : Pump) (left : ℕ) (h : InPause p left) where
       record {
         left = left;
         before-pausing = h .pausing;
-        nothing = works ∙ sym (ap (λ (r : Report). reported (r .pump) 0) works);
+        nothing = works ∙ sym (ap (λ (r : Report). silentTick (r .pump)) works);
       }
 
 -- ---- many
-pub pause-goes-on : (p : Pump) (left n : ℕ) → InPause p left → n < left → after p (ticksIn n) ≡ leaving p (left - n)
-unfolding after ticksIn
+pub pause-goes-on : (p : Pump) (left n : ℕ) → InPause p left → n < left → after p (singleTicks n) ≡ leaving p (left - n)
+unfolding after singleTicks
 pause-goes-on p left zero h k = sym (as-it-is p left h) ∙ ap (leaving p) (all left)
   where
     all : (m : ℕ) → m ≡ m - 0
     all m = omega arith
 pause-goes-on p left (suc n) h k =
     let more : 1 < left = omega arith in
-    ap (λ (r : Report). after (r .pump) (ticksIn n)) (counts-down p left h more)
+    ap (λ (r : Report). after (r .pump) (singleTicks n)) (counts-down p left h more)
     ∙ pause-goes-on (leaving p (left - 1)) (left - 1) n (on p left h more) (omega arith)
     ∙ ap (leaving p) (fewer left n)
   where
     fewer : (m i : ℕ) → m - 1 - i ≡ m - suc i
     fewer m i = omega arith
 
-ends-after : (p : Pump) (left n : ℕ) → InPause p left → left ≡ suc n → after p (ticksIn (suc n)) ≡ behindPause p
-unfolding after ticksIn
+ends-after : (p : Pump) (left n : ℕ) → InPause p left → left ≡ suc n → after p (singleTicks (suc n)) ≡ behindPause p
+unfolding after singleTicks
 ends-after p left zero h e = ap (λ (r : Report). r .pump) (ends p left h (omega arith))
 ends-after p left (suc n) h e =
     let more : 1 < left = omega arith in
-    ap (λ (r : Report). after (r .pump) (ticksIn (suc n))) (counts-down p left h more)
+    ap (λ (r : Report). after (r .pump) (singleTicks (suc n))) (counts-down p left h more)
     ∙ ends-after (leaving p (left - 1)) (left - 1) n (on p left h more) (omega arith)
 
-pub pause-ends : (p : Pump) (left : ℕ) → InPause p left → after p (ticksIn left) ≡ behindPause p
+pub pause-ends : (p : Pump) (left : ℕ) → InPause p left → after p (singleTicks left) ≡ behindPause p
 pause-ends p left h = go left (some-left p left h) refl
   where
-    go : (n : ℕ) → 1 ≤ n → left ≡ n → after p (ticksIn n) ≡ behindPause p
+    go : (n : ℕ) → 1 ≤ n → left ≡ n → after p (singleTicks n) ≡ behindPause p
     go zero k e = absurd (omega arith)
     go (suc n) k e = ends-after p left n h e
 
-pub pause-passes : (p : Pump) (left n : ℕ) → InPause p left → n ≤ left → Every Passing (trace p (ticksIn n))
-unfolding trace ticksIn
+pub pause-passes : (p : Pump) (left n : ℕ) → InPause p left → n ≤ left → Every Passing (trace p (singleTicks n))
+unfolding trace singleTicks
 pause-passes p left zero h k = tt
 pause-passes p left (suc zero) h k = (passes p left h, tt)
 pause-passes p left (suc (suc n)) h k =
     let more : 1 < left = omega arith in (
       passes p left h,
-      subst (λ (r : Report). Every Passing (trace (r .pump) (ticksIn (suc n)))) (sym (counts-down p left h more))
+      subst (λ (r : Report). Every Passing (trace (r .pump) (singleTicks (suc n)))) (sym (counts-down p left h more))
           (pause-passes (leaving p (left - 1)) (left - 1) (suc n) (on p left h more) (omega arith)),
     )

@@ -4,9 +4,11 @@
 --     refusing always           condition 1, the exact table
 --     answering `00S` always    condition 2, at the first query
 --     leaving the state still   condition 2, at RUN and a tick
--- (01, What a bidder's proof must pin; Slips we have met)
+-- The last two are calls of many ticks: condition 3 is said of the single ticks, and what such a call itself hands back is the business of
+-- AddsUp (specs/Many.antt of the statement), which refuses them.
+-- (01, What a bidder's proof must pin; Slips we have met; 02, 1/12)
 -- Assumes nothing.
-use Prim.Native.Nat.{ℕ, _*_, _≤_}
+use Prim.Native.Nat.{ℕ, _+_, _*_, _≤_}
 use Prim.Native.String.{String}
 use mathlib.Core.Path.{_≡_, refl, sym, ap}
 use mathlib.Core.List.{List, [], _∷_, _++_}
@@ -34,16 +36,19 @@ use Rattle.pump.specs.Calls as calls
 use Rattle.pump.specs.Calls.{ticked}
 use Rattle.pump.specs.Device as device
 use Rattle.pump.specs.Holder.{modelPhases, freshPump}
-use Rattle.pump.specs.Reports.{reported}
+use Rattle.pump.specs.Reports as reports
 use Rattle.pump.specs.declared.holder.Pump.{Pump}
 use Rattle.pump.specs.declared.reports.Report.{Report}
 use Rattle.statement.specs.Facts.{coreOf, runOf, underWay, loopsOf}
-use Rattle.statement.specs.Histories.{Call, byteIn, pinAt, tickIn, reportAfter, bufferBehind, after, Event, trace}
+use Rattle.statement.specs.Histories.{Call, byteIn, pinAt, tickIn, ticksIn, reportAfter, bufferBehind, after, Event, trace, singleTicks}
+use Rattle.statement.specs.Many.{AddsUp}
 use Rattle.statement.specs.Outcomes.{pumpWithCore}
+use Rattle.statement.proofs.Many.{call-adds}
 use Rattle.condition3.specs.Books.{Books, stepAt, blank, noted, books, deed, ruledBy, told}
 use Rattle.condition3.specs.Condition.{Throughout, Goes, Condition3}
-use Rattle.condition3.specs.Sending.{bytesIn, lines, ticksIn}
+use Rattle.condition3.specs.Sending.{bytesIn, lines}
 use Rattle.condition3.proofs.Opening.{opened}
+use Rattle.condition3.proofs.Stops.{silentTick}
 
 -- ==== A wrong engine's history: from power-up calls that it answers rightly, then calls with what it reports, of the pump that it has
 abbrev pub Slip : Type 0
@@ -98,6 +103,7 @@ reaching r p =
       infused = r .infused;
       withdrawn = r .withdrawn;
       beeps = r .beeps;
+      ticks = r .ticks;
       refusal = r .refusal;
       output = r .output;
     }
@@ -131,10 +137,10 @@ twiceAsFast p =
     running r (withRate (runOf (r .pump)) (Current Mh 50_000))
 
 abbrev pub paceDoubled : Wrong
-paceDoubled = record { rightly = lines ("" ∷ "RAT50MH" ∷ "RUN" ∷ []) ++ ticksIn 1; slips = (tickIn, twiceAsFast) ∷ [] }
+paceDoubled = record { rightly = lines ("" ∷ "RAT50MH" ∷ "RUN" ∷ []) ++ singleTicks 1; slips = (tickIn, twiceAsFast) ∷ [] }
 
 pub pace-doubled : Passes paceDoubled → ⊥
-unfolding opened ticksIn
+unfolding opened singleTicks
 pace-doubled c = eqb-false 1 0 refl (ruled paceDoubled c .0)
 
 -- "current rate becomes the stored one": half of it does, and is shown by RAT and kept to.   Refused by `none-silent` (Entry)
@@ -145,16 +151,16 @@ abbrev pub rateHalved : Wrong
 rateHalved = record { rightly = lines ("" ∷ "RAT50MH" ∷ "RUN" ∷ []); slips = (tickIn, halved) ∷ [] }
 
 pub rate-halved : Passes rateHalved → ⊥
-unfolding opened ticksIn
+unfolding opened singleTicks
 rate-halved c = eqb-false 25_000 50_000 refl (ap thousandths (goes rateHalved c .0 .rat refl refl .1))
 
 -- ==== "Reaching the target ends the visit" (01, Ticks and phases): it ends before. 50 steps fit in VOL 1.000, and behind the 45th the pump
 -- is stopped.   Refused by `none-silent` (In)
 abbrev pub stopsInSilence : Wrong
-stopsInSilence = record { rightly = dosing "VOL1" ++ ticksIn 16; slips = (tickIn, λ p. running (ticked p) (stop (runOf p))) ∷ [] }
+stopsInSilence = record { rightly = dosing "VOL1" ++ singleTicks 16; slips = (tickIn, λ p. running (ticked p) (stop (runOf p))) ∷ [] }
 
 pub stops-in-silence : Passes stopsInSilence → ⊥
-unfolding opened ticksIn
+unfolding opened singleTicks
 stops-in-silence c = false-true (goes stopsInSilence c .0 .1 refl refl .runs)
 
 -- the same at a byte that ends no line: nothing but *RESET stops a pump in I or W.   Refused by `none-silent` (Goes)
@@ -163,10 +169,10 @@ stopsAt call p = running (reportAfter p call) (stop (runOf p))
 
 abbrev pub stopsAtAByte : Wrong
 stopsAtAByte =
-    let call = byteIn 65 (replicate room 0) in record { rightly = dosing "VOL1" ++ ticksIn 3; slips = (call, stopsAt call) ∷ [] }
+    let call = byteIn 65 (replicate room 0) in record { rightly = dosing "VOL1" ++ singleTicks 3; slips = (call, stopsAt call) ∷ [] }
 
 pub stops-at-a-byte : Passes stopsAtAByte → ⊥
-unfolding opened ticksIn
+unfolding opened singleTicks
 stops-at-a-byte c = false-true (goes stopsAtAByte c .0 refl refl)
 
 -- ==== "Firing .. ends the visit" (01, Ticks and phases): it lives on, and gives three steps in phase 5, an STP phase.   Refused by `ruled`
@@ -174,10 +180,10 @@ abbrev visitLeft : Pump → Report
 visitLeft p = let r : Report = reportAfter p (pinAt 4 0) in running r (doing (runOf (r .pump)) (underWay p))
 
 abbrev pub visitSurvives : Wrong
-visitSurvives = record { rightly = trapped ++ ticksIn 3; slips = (pinAt 4 0, visitLeft) ∷ (tickIn, ticked) ∷ [] }
+visitSurvives = record { rightly = trapped ++ singleTicks 3; slips = (pinAt 4 0, visitLeft) ∷ (tickIn, ticked) ∷ [] }
 
 pub visit-survives-its-trap : Passes visitSurvives → ⊥
-unfolding opened ticksIn calls.pinCall device.edge edges.pinFour edges.spring
+unfolding opened singleTicks calls.pinCall device.edge edges.pinFour edges.spring
 visit-survives-its-trap c = eqb-false 3 0 refl (ruled visitSurvives c .1 .0)
 
 -- ==== "running the first phase truly and merely naming the later ones" (01, What a bidder's proof must pin): the first working tick of the
@@ -185,24 +191,24 @@ visit-survives-its-trap c = eqb-false 3 0 refl (ruled visitSurvives c .1 .0)
 abbrev pub firstVisitOnly : Wrong
 firstVisitOnly =
     record {
-      rightly = lines ("" ∷ "RAT200MH" ∷ "VOL0.020" ∷ "PHN2" ∷ "FUNRAT" ∷ "RAT200MH" ∷ "RUN" ∷ []) ++ ticksIn 3;
-      slips = (tickIn, λ p. reported p 0) ∷ [];
+      rightly = lines ("" ∷ "RAT200MH" ∷ "VOL0.020" ∷ "PHN2" ∷ "FUNRAT" ∷ "RAT200MH" ∷ "RUN" ∷ []) ++ singleTicks 3;
+      slips = (tickIn, silentTick) ∷ [];
     }
 
 pub first-visit-only : Passes firstVisitOnly → ⊥
-unfolding opened ticksIn
+unfolding opened singleTicks
 first-visit-only c = eqb-false 0 2 refl (ruled firstVisitOnly c .0)
 
 -- and one that stops where the second visit would begin, at a usable rate.   Refused by `none-silent` (Entry)
 abbrev pub secondVisitUnbegun : Wrong
 secondVisitUnbegun =
     record {
-      rightly = lines ("" ∷ "RAT200MH" ∷ "VOL0.020" ∷ "PHN2" ∷ "FUNRAT" ∷ "RAT200MH" ∷ "RUN" ∷ []) ++ ticksIn 2;
+      rightly = lines ("" ∷ "RAT200MH" ∷ "VOL0.020" ∷ "PHN2" ∷ "FUNRAT" ∷ "RAT200MH" ∷ "RUN" ∷ []) ++ singleTicks 2;
       slips = (tickIn, stopsAt tickIn) ∷ [];
     }
 
 pub second-visit-unbegun : Passes secondVisitUnbegun → ⊥
-unfolding opened ticksIn
+unfolding opened singleTicks
 second-visit-unbegun c = false-true (sym (goes secondVisitUnbegun c .0 .rat refl refl .0))
 
 -- ==== The slips (01, Slips we have met)
@@ -210,36 +216,36 @@ second-visit-unbegun c = false-true (sym (goes secondVisitUnbegun c .0 .rat refl
 abbrev pub wholeVolumeBooked : Wrong
 wholeVolumeBooked =
     record {
-      rightly = trapped ++ ticksIn 1;
+      rightly = trapped ++ singleTicks 1;
       slips = (tickIn, λ p. booked (ticked p) (50 * stepAt 10_000)) ∷ (pinAt 4 0, λ p. reportAfter p (pinAt 4 0)) ∷ [];
     }
 
 pub whole-volume-booked : Passes wholeVolumeBooked → ⊥
-unfolding opened ticksIn calls.pinCall device.edge edges.pinFour edges.spring
+unfolding opened singleTicks calls.pinCall device.edge edges.pinFour edges.spring
 whole-volume-booked c = eqb-false 981_750_000 0 refl (c .given Infuse .total)
 
 -- "Re-pricing old totals when the diameter changes": 50 steps of 10 mm, and those of 20 mm stand.   Refused by `total`
 abbrev pub oldTotalsRepriced : Wrong
 oldTotalsRepriced =
     record {
-      rightly = dosing "VOL1" ++ ticksIn 20 ++ bytesIn (text "DIA20");
+      rightly = dosing "VOL1" ++ singleTicks 20 ++ bytesIn (text "DIA20");
       slips = (byteIn 13 (replicate room 0), λ p. booked (reportAfter p (byteIn 13 (replicate room 0))) (50 * stepAt 20_000)) ∷ [];
     }
 
 pub old-totals-repriced : Passes oldTotalsRepriced → ⊥
-unfolding opened ticksIn
+unfolding opened singleTicks
 old-totals-repriced c = eqb-false 3_927_000_000 981_750_000 refl (c .given Infuse .total)
 
 -- "Reading LOP n as n repeats after the first pass": the second LOP 2 returns.   Refused by `none-silent` (Entry) and by `three-loops`
 abbrev pub oneRepeatMore : Wrong
-oneRepeatMore = record { rightly = twice ++ ticksIn 4; slips = (tickIn, λ p. running (ticked p) (passLoop (runOf p) 3)) ∷ [] }
+oneRepeatMore = record { rightly = twice ++ singleTicks 4; slips = (tickIn, λ p. running (ticked p) (passLoop (runOf p) 3)) ∷ [] }
 
 pub one-repeat-more : Passes oneRepeatMore → ⊥
-unfolding opened ticksIn
+unfolding opened singleTicks
 one-repeat-more c = eqb-false 2 4 refl (goes oneRepeatMore c .0 .lop refl)
 
 pub its-loop-stays : Passes oneRepeatMore → ⊥
-unfolding opened ticksIn
+unfolding opened singleTicks
 its-loop-stays c = eqb-false 1 0 refl (ap length (c .three-loops .booked))
 
 -- "Opening the same loop again after a JMP until the fourth alarm": each LPS opens one more, written as begun by phase n
@@ -250,17 +256,17 @@ opensAnother n p =
 
 -- whatever n is, 1 or another: behind the second LPS two loops are stored, and one is open.   Refused by `three-loops` (booked)
 abbrev pub sameLoopAgain : ℕ → Wrong
-sameLoopAgain n = record { rightly = endless ++ ticksIn 2; slips = (tickIn, opensAnother n) ∷ [] }
+sameLoopAgain n = record { rightly = endless ++ singleTicks 2; slips = (tickIn, opensAnother n) ∷ [] }
 
 pub same-loop-again : (n : ℕ) → Passes (sameLoopAgain n) → ⊥
-unfolding opened ticksIn
+unfolding opened singleTicks
 same-loop-again n c = eqb-false 2 1 refl (ap length (c .three-loops .booked))
 
 -- "until the fourth alarm": named as begun by phases 1, 11 and 21 they pass; the fourth LPS is alarm E.   Refused by `none-silent` (Entry)
 abbrev pub loopOpenedThrice : Wrong
 loopOpenedThrice =
     record {
-      rightly = endless ++ ticksIn 2;
+      rightly = endless ++ singleTicks 2;
       slips =
           (tickIn, opensAnother 11)
           ∷ (tickIn, ticked)
@@ -271,7 +277,7 @@ loopOpenedThrice =
     }
 
 pub loop-opened-thrice : Passes loopOpenedThrice → ⊥
-unfolding opened ticksIn
+unfolding opened singleTicks
 loop-opened-thrice c = false-true (sym (goes loopOpenedThrice c .1 .1 .1 .1 .0 .lps refl))
 
 -- "Rounding the step target up": one step fits in 0.030 microlitres, and two are given.   Refused by `ruled` and by `visits-fit`
@@ -282,9 +288,41 @@ abbrev pub targetRoundedUp : Wrong
 targetRoundedUp = record { rightly = dosing "VOL0.030"; slips = (tickIn, twoAimedAt) ∷ (tickIn, ticked) ∷ [] }
 
 pub target-rounded-up : Passes targetRoundedUp → ⊥
-unfolding opened ticksIn
+unfolding opened singleTicks
 target-rounded-up c = eqb-false 2 1 refl (ruled targetRoundedUp c .1 .0)
 
 pub two-do-not-fit : Passes targetRoundedUp → ⊥
-unfolding opened ticksIn
+unfolding opened singleTicks
 two-do-not-fit c = let more : 39_270_000 ≤ 30_000_000 = c .visits-fit .0 .at-most (lit< tt) in omega arith
+
+-- ==== "It must equal that many single ticks one after another" (02, 1/12): a call of many tells a step more than its ticks do, whatever
+-- the state and the number.   Refused by `infused` of AddsUp
+abbrev stepMore : Report → Report
+stepMore r =
+    record {
+      pump = r .pump;
+      length = r .length;
+      infused = r .infused + 1;
+      withdrawn = r .withdrawn;
+      beeps = r .beeps;
+      ticks = r .ticks;
+      refusal = r .refusal;
+      output = r .output;
+    }
+
+abbrev many : Pump → ℕ → Report → Event
+many p n r = record { before = p; call = ticksIn n; report = r; buffer = [] }
+
+pub one-step-more : (p : Pump) (n : ℕ) → AddsUp (many p n (stepMore (reportAfter p (ticksIn n)))) → ⊥
+one-step-more p n c = omega (arith, call-adds p (ticksIn n) .infused, c .infused)
+
+-- and one that tells what three ticks tell, and leaves the state of two: five steps were given, and two are booked.   Refused by `follows`
+abbrev lagging : Event
+lagging =
+    let p : Pump = after (freshPump modelPhases) (dosing "VOL1") in
+    many p 3 (reaching (reportAfter p (ticksIn 3)) (after p (singleTicks 2)))
+
+pub one-tick-behind : AddsUp lagging → ⊥
+unfolding opened singleTicks calls.ticksCall calls.inTurn reports.ofTicks
+one-tick-behind c =
+    eqb-false 98_175_000 39_270_000 refl (ap (λ (p : Pump). coreOf p .ledger .totals .infused) (c .follows .1 .1 .1))

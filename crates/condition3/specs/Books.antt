@@ -2,14 +2,13 @@
 -- (specs/Condition.antt) is said of them. Of the stored state he reads what a query shows, before a call and after it, and no more (View):
 --     device.core.run.mode, the kind of its work     the status letter of an answer
 --     device.core.syringe.diameter                   DIA
---     device.core.run.place.current                  PHN            (in I and W, as the next two)
+--     device.core.run.place.current, run.rate        PHN, RAT       (in I and W, as the next)
 --     phases, at that place                          FUN, VOL, DIR; the stored rate RAT, asked for when the pump is not operating
---     device.core.run.rate                           RAT
 -- What no query shows he keeps himself, by the document's sentences, said a second time: an engine wrong in definition and code is caught.
 use Rattle.condition3.specs.Terms.{ℕ, _+_, _-_, _*_, _/_, _%_, min, Bool, true, false, not, _&&_, _||_, leb, ltb, eqb, List, [], _∷_}
 use Rattle.condition3.specs.Terms.{_++_, length, take, drop, if_then_else_, letter, text, leads, isText, Direction, Infuse, Withdraw}
 use Rattle.condition3.specs.Terms.{Um, Mm, Uh, Mh, Rate, NoRate, Current, Phase, number, datum, Loop, Pump, hereOf, statusRun}
-use Rattle.condition3.specs.Terms.{statusLetter, refusalNumber, characters, Call, byteIn, pinAt, tickIn, Event}
+use Rattle.condition3.specs.Terms.{statusLetter, refusalNumber, characters, Call, byteIn, pinAt, tickIn, ticksIn, Event}
 
 -- ==== What he sees of a pump: the status letter and the diameter; in I and W the running phase, entered or not, and the current rate
 pub record View : Type 0 where
@@ -21,10 +20,9 @@ pub record View : Type 0 where
 
 unfoldable pub viewOf : Pump → View
 viewOf p =
-    let core = p .device .core in
-    let run = core .run in
-    let status = statusLetter (statusRun run (hereOf p .direction)) in
-    record { status = status; diameter = core .syringe .diameter; running = run .place .current; phase = hereOf p; rate = run .rate }
+    let run = p .device .core .run in
+    let s = statusLetter (statusRun run (hereOf p .direction)) in
+    record { status = s; diameter = p .device .core .syringe .diameter; running = run .place .current; phase = hereOf p; rate = run .rate }
 
 abbrev pub later : Event → View
 later e = viewOf (e .report .pump)
@@ -144,7 +142,7 @@ abbrev pub isWhole : Doing → Bool
 isWhole nothing = false
 isWhole (visiting w) = ltb 0 (w .volume) && leb (w .volume / w .v) (w .steps)
 
--- ---- a tick in I or W works the visit under way, or enters the phase   (01, Ticks and phases)
+-- ---- a tick in I or W works the visit under way, or enters the phase; many in one call are taken apart first   (01, Ticks and phases)
 pub data Deed : Type 0 where
   other : Deed
   enters : View → Deed
@@ -153,6 +151,7 @@ pub data Deed : Type 0 where
 abbrev pub deedBy : Doing → View → Call → Deed
 deedBy doing x (byteIn b buffer) = other
 deedBy doing x (pinAt pin level) = other
+deedBy doing x (ticksIn n) = other
 deedBy nothing x tickIn = if moves x then enters x else other
 deedBy (visiting w) x tickIn = if moves x then works w x else other
 
@@ -191,6 +190,7 @@ abbrev pub heard : List ℕ → Bool → Call → List ℕ × Bool
 heard line four (byteIn b buffer) = (if eqb b 13 then [] else line ++ b ∷ [], four)
 heard line four (pinAt pin level) = (line, if eqb pin 4 then eqb level 1 else four)
 heard line four tickIn = (line, four)
+heard line four (ticksIn n) = (line, four)
 
 -- a line was obeyed: the answer is STX, `00`, the status and ETX. Up to two leading digits of a line are an address   (01, Line and answer)
 unfoldable pub isObeyed : Event → Bool

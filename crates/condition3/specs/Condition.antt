@@ -1,10 +1,10 @@
--- Condition 3, said of the observer's books (specs/Books.antt): what is claimed of each event with the books before it, of the visits and
--- the loops, and the record, a field for each sentence. The theorem is condition3 (proofs/Theorem.antt), for a pump of 1 to 99 phases.
+-- Condition 3 of the observer's books (specs/Books.antt): what is claimed of each event with the books before it, of visits and loops,
+-- and the record, a field for each sentence. The theorem is condition3 (proofs/Theorem.antt), tick by tick, for a pump of 1 to 99 phases.
 use Rattle.condition3.specs.Terms.{ℕ, _+_, _*_, _≤_, _<_, _≡_, true, false, leb, if_then_else_, List, [], _∷_, reverse, length, getD}
 use Rattle.condition3.specs.Terms.{Direction, Infuse, Withdraw, datum, text, isText, Loop, Pump, loopsOf, Event, Every}
-use Rattle.condition3.specs.Books.{Visit, View, viewOf, kindOf, moves, later, stops, told, ofWay, storedIn, isUsableAt, isWhole, isFull}
+use Rattle.condition3.specs.Books.{Visit, View, viewOf, kindOf, moves, later, stops, told, ofWay, storedIn, isUsableAt, isWhole}
 use Rattle.condition3.specs.Books.{stillOpen, newestLoop, isLast, Books, visiting, Deed, other, enters, works, deed, doingBy, ruledBy}
-use Rattle.condition3.specs.Books.{allVisits, asked, blank, noted, books}
+use Rattle.condition3.specs.Books.{isFull, allVisits, asked, blank, noted, books}
 
 -- what holds of every event, with the books as they were before it
 abbrev pub Throughout : (Books → Event → Type 0) → Books → List Event → Type 0

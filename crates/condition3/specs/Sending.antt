@@ -1,11 +1,11 @@
--- What is sent to the pump: lines, a byte a call, and ticks.   (01, Calls; Line and answer; Marked figures: the bench program)
-use Prim.Native.Nat.{ℕ, zero, suc}
+-- What is sent to the pump: lines, a byte a call.   (01, Calls; Line and answer; Marked figures: the bench program)
+use Prim.Native.Nat.{ℕ}
 use Prim.Native.String.{String}
 use mathlib.Core.List.{List, [], _∷_, _++_}
 use lib.ListN.{replicate}
 use Rattle.base.specs.Text.{text}
 use Rattle.answer.specs.Answers.{room}
-use Rattle.statement.specs.Histories.{Call, byteIn, tickIn}
+use Rattle.statement.specs.Histories.{Call, byteIn}
 
 -- bytes, one after the other, each with a buffer that has just room for an answer
 abbrev pub bytesIn : List ℕ → List Call
@@ -20,8 +20,3 @@ line t = bytesIn (text t ++ 13 ∷ [])
 abbrev pub lines : List String → List Call
 lines [] = []
 lines (t ∷ ts) = line t ++ lines ts
-
--- so many ticks; shut, since a figure has more than a million of them
-unfoldable pub ticksIn : ℕ → List Call
-ticksIn zero = []
-ticksIn (suc n) = tickIn ∷ ticksIn n

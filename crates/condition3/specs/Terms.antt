@@ -24,4 +24,4 @@ pub use Rattle.pump.specs.Holder.{hereOf}
 pub use Rattle.pump.specs.Reports.{refusalNumber}
 pub use Rattle.pump.specs.declared.holder.Pump.{Pump}
 pub use Rattle.statement.specs.Facts.{loopsOf}
-pub use Rattle.statement.specs.Histories.{Call, byteIn, pinAt, tickIn, Event, Every}
+pub use Rattle.statement.specs.Histories.{Call, byteIn, pinAt, tickIn, ticksIn, Event, Every}

@@ -1,5 +1,6 @@
 -- What is read off the events of a history alone: the steps that their reports tell, the lines that their answers are printed as, whether
--- a call was refused; and, with the items of an input, all that is printed for it.   (01, Marked figures: the bench program; Calls)
+-- a call was refused; and, with the items of an input, all that is printed for it.   (01, Marked figures: the bench program; Calls;
+-- 02, 1/12)
 use Prim.Native.Nat.{ℕ, _+_}
 use mathlib.Core.Bool.{Bool, false, _||_}
 use mathlib.Core.List.{List, [], _∷_, _++_}
@@ -31,8 +32,8 @@ unfoldable pub someRefused : List Event → Bool
 someRefused [] = false
 someRefused (e ∷ es) = isRefused (e .report .refusal) || someRefused es
 
--- ---- what an item prints, by the events of its calls: answers, or an empty line where there is none; nothing for a pin; the counts
--- ---- of ticks; and `!` for a refused call and for a line that is no item
+-- ---- what an item prints, by the events of its calls: answers, or an empty line where there is none; nothing for a pin; for
+-- ---- ticks the sums of the steps that their calls tell; and `!` for a refused call and for a line that is no item
 unfoldable pub itemTold : Item → List Event → List ℕ
 itemTold (say s) es = orEmptyLine (answersIn es)
 itemTold (level pin high) es = if someRefused es then complaintLine else []

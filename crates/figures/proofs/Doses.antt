@@ -16,18 +16,17 @@ use Rattle.program.specs.declared.state.Mode.the-variants.{Stopped}
 use Rattle.program.specs.declared.state.Pending.the-variants.{NoAlarm}
 use Rattle.pump.specs.Holder.{modelPhases, isSoundPump}
 use Rattle.pump.specs.declared.holder.Pump.{Pump}
-use Rattle.pump.specs.Reports.{reported}
 use Rattle.pump.specs.declared.reports.Report.{Report}
 use Rattle.statement.specs.Facts.{runOf, underWay}
-use Rattle.statement.specs.Histories.{Call, byteIn, pinAt, tickIn, after, Event, trace, Every}
+use Rattle.statement.specs.Histories.{Call, byteIn, pinAt, tickIn, ticksIn, after, Event, trace, Every, singleTicks}
 use Rattle.statement.proofs.Always.{model, sound-after}
 use Rattle.condition3.specs.Books.{Books, Doing, nothing, Visit, viewOf, moves, other, enters, deedBy, doingBy, deed, drops}
 use Rattle.condition3.specs.Books.{allVisits, isWhole, blank, noted, books}
-use Rattle.condition3.specs.Sending.{lines, ticksIn}
-use Rattle.condition3.proofs.Joining.{trace-both, ticks-both}
+use Rattle.condition3.specs.Sending.{lines}
+use Rattle.statement.proofs.Joining.{trace-both, ticks-both}
 use Rattle.condition3.proofs.Opening.{opened}
 use Rattle.condition3.proofs.Views.{movesIn, view-moves}
-use Rattle.condition3.proofs.Stops.{Standing, stopped-stands}
+use Rattle.condition3.proofs.Stops.{silentTick, Standing, stopped-stands}
 use Rattle.figures.specs.Figures.{inMicrolitres, inMillilitres, tooLittle, justEnough, microlitre}
 use Rattle.figures.specs.Rows.{Agrees, atPowerUp, booksAfter, inProgress, over, visitsIn, dispenses}
 
@@ -46,7 +45,7 @@ module _ (b : Books) (e : Event) (h : Standing e) (idle : b .doing ≡ nothing) 
   reporting r = record { before = e .before; call = e .call; report = r; buffer = e .buffer }
 
   abbrev silent : Event
-  silent = reporting (reported (e .before) 0)
+  silent = reporting (silentTick (e .before))
 
   -- S is neither I nor W
   still : moves (viewOf (e .before)) ≡ false
@@ -55,6 +54,7 @@ module _ (b : Books) (e : Event) (h : Standing e) (idle : b .doing ≡ nothing) 
   none-begun : (c : Call) → doingBy nothing silent (deedBy nothing (viewOf (e .before)) c) ≡ nothing
   none-begun (byteIn x buffer) = refl
   none-begun (pinAt pin level) = refl
+  none-begun (ticksIn n) = refl
   none-begun tickIn = ap (λ (t : Bool). doingBy nothing silent (if t then enters (viewOf (e .before)) else other)) still
 
   none-now : doingBy (b .doing) silent (deed b silent) ≡ nothing
@@ -92,15 +92,15 @@ books-both b (e ∷ es) fs = books-both (noted b e) es fs
 
 module _ (ts : List String) (n : ℕ) where
   abbrev there : Pump
-  there = after atPowerUp (lines ts ++ ticksIn n)
+  there = after atPowerUp (lines ts ++ singleTicks n)
 
-  books-then : (k : ℕ) → booksAfter ts (n + k) ≡ books (booksAfter ts n) (trace there (ticksIn k))
+  books-then : (k : ℕ) → booksAfter ts (n + k) ≡ books (booksAfter ts n) (trace there (singleTicks k))
   unfolding booksAfter
   books-then k =
       ap (λ (cs : List Call). books blank (trace atPowerUp cs))
-      (ap (λ (cs : List Call). lines ts ++ cs) (ticks-both n k) ∙ sym (append-assoc (lines ts) (ticksIn n) (ticksIn k)))
-      ∙ ap (books blank) (trace-both atPowerUp (lines ts ++ ticksIn n) (ticksIn k))
-      ∙ books-both blank (trace atPowerUp (lines ts ++ ticksIn n)) (trace there (ticksIn k))
+      (ap (λ (cs : List Call). lines ts ++ cs) (ticks-both n k) ∙ sym (append-assoc (lines ts) (singleTicks n) (singleTicks k)))
+      ∙ ap (books blank) (trace-both atPowerUp (lines ts ++ singleTicks n) (singleTicks k))
+      ∙ books-both blank (trace atPowerUp (lines ts ++ singleTicks n)) (trace there (singleTicks k))
 
   for-ever :
       runOf there .mode ≡ Stopped NoAlarm
@@ -108,9 +108,9 @@ module _ (ts : List String) (n : ℕ) where
       → (k : ℕ)
       → visitsIn (booksAfter ts (n + k)) ≡ visitsIn (booksAfter ts n)
   for-ever stops idle k =
-      let sound : isSoundPump there ≡ true = sound-after modelPhases model (lines ts ++ ticksIn n) in
-      let stands : Every Standing (trace there (ticksIn k)) = stopped-stands there sound NoAlarm stops k in
-      let rest = all-rest (trace there (ticksIn k)) (booksAfter ts n) stands idle in
+      let sound : isSoundPump there ≡ true = sound-after modelPhases model (lines ts ++ singleTicks n) in
+      let stands : Every Standing (trace there (singleTicks k)) = stopped-stands there sound NoAlarm stops k in
+      let rest = all-rest (trace there (singleTicks k)) (booksAfter ts n) stands idle in
       ap visitsIn (books-then k) ∙ ap₂ (λ (x : Doing) (ws : List Visit). inProgress x ∷ over ws) (rest .none ∙ sym idle) (rest .same)
 
 -- ---- a visit that ends in tick n, where the next tick stops the pump
@@ -119,7 +119,7 @@ record Ends (ts : List String) (n steps : ℕ) : Type 0 where
   at-end : visitsIn (booksAfter ts n) ≡ (0 ∷ 1 ∷ steps ∷ [])
   behind : visitsIn (booksAfter ts (n + 1)) ≡ (0 ∷ 1 ∷ steps ∷ [])
   idle : booksAfter ts (n + 1) .doing ≡ nothing
-  stops : runOf (after atPowerUp (lines ts ++ ticksIn (n + 1))) .mode ≡ Stopped NoAlarm
+  stops : runOf (after atPowerUp (lines ts ++ singleTicks (n + 1))) .mode ≡ Stopped NoAlarm
 
 module _ (ts : List String) (n steps : ℕ) (h : Ends ts n steps) where
   from-then : (k : ℕ) → visitsIn (booksAfter ts (n + k)) ≡ (0 ∷ 1 ∷ steps ∷ [])
@@ -133,23 +133,23 @@ module _ (ts : List String) (n steps : ℕ) (h : Ends ts n steps) where
 
 -- ---- the runs
 pub less-than-a-step : Agrees (dispenses "f" inMicrolitres 1 0)
-unfolding opened ticksIn booksAfter inMicrolitres
+unfolding opened singleTicks booksAfter inMicrolitres
 less-than-a-step =
     ends inMicrolitres 1 0 (record { before = refl; at-end = refl; behind = refl; idle = refl; stops = refl }) "f"
 
 pub a-thousand-times : Agrees (dispenses "f" inMillilitres 19 25)
-unfolding opened ticksIn booksAfter inMillilitres
+unfolding opened singleTicks booksAfter inMillilitres
 a-thousand-times =
     ends inMillilitres 19 25 (record { before = refl; at-end = refl; behind = refl; idle = refl; stops = refl }) "f"
 
 pub none-fits : Agrees (dispenses "h" tooLittle 1 0)
-unfolding opened ticksIn booksAfter tooLittle
+unfolding opened singleTicks booksAfter tooLittle
 none-fits = ends tooLittle 1 0 (record { before = refl; at-end = refl; behind = refl; idle = refl; stops = refl }) "h"
 
 pub one-fits : Agrees (dispenses "h" justEnough 2 1)
-unfolding opened ticksIn booksAfter justEnough
+unfolding opened singleTicks booksAfter justEnough
 one-fits = ends justEnough 2 1 (record { before = refl; at-end = refl; behind = refl; idle = refl; stops = refl }) "h"
 
 pub fifty-fit : Agrees (dispenses "i" microlitre 19 50)
-unfolding opened ticksIn booksAfter microlitre
+unfolding opened singleTicks booksAfter microlitre
 fifty-fit = ends microlitre 19 50 (record { before = refl; at-end = refl; behind = refl; idle = refl; stops = refl }) "i"

@@ -26,11 +26,10 @@ use Rattle.pump.specs.declared.holder.Pump.{Pump}
 use Rattle.pump.specs.declared.reports.Report.{Report}
 use Rattle.pump.proofs.Kept.{sound-tick}
 use Rattle.statement.specs.Facts.{coreOf, runOf, underWay}
-use Rattle.statement.specs.Histories.{Call, after, Whole, Event, trace, Every}
+use Rattle.statement.specs.Histories.{Call, after, Whole, Event, trace, Every, singleTicks}
 use Rattle.statement.specs.Outcomes.{pumpWithCore}
 use Rattle.statement.proofs.Always.{after-whole}
-use Rattle.condition3.specs.Sending.{ticksIn}
-use Rattle.condition3.proofs.Joining.{after-both, trace-both, ticks-both}
+use Rattle.statement.proofs.Joining.{after-both, trace-both, ticks-both}
 use Rattle.condition3.proofs.Pauses.{InPause, Passing, behindPause, pause-ends, pause-passes}
 use Rattle.condition3.proofs.Stops.{Standing, stopped-after, stopped-stands}
 use Rattle.figures.specs.Rows.{isAccepted, tickTaken, entering, entersPhase, oneIf, entries}
@@ -104,12 +103,12 @@ none-entered phase P none (e ∷ es) h =
 
 -- ---- what a leap says of the ticks that it stands for
 record Leaps (phase : ℕ) (p : Pump) (n : ℕ) (q : Pump) : Type 0 where
-  there : after p (ticksIn n) ≡ q
-  counted : entries phase (trace p (ticksIn n)) ≡ oneIf (entering phase (runOf p))
+  there : after p (singleTicks n) ≡ q
+  counted : entries phase (trace p (singleTicks n)) ≡ oneIf (entering phase (runOf p))
 
 module _ (phase : ℕ) (p : Pump) (w : Whole p) where
   one-tick : Leaps phase p 1 (pumpWithCore p (stepped (p .phases) (coreOf p)))
-  unfolding after trace ticksIn entries entersPhase
+  unfolding after trace singleTicks entries entersPhase
   one-tick =
       record {
         there = ap (λ (r : Report). r .pump) (sound-tick p (w .sound));
@@ -123,7 +122,7 @@ module _ (phase : ℕ) (p : Pump) (w : Whole p) where
       record {
         there = pause-ends p left h;
         counted =
-            none-entered phase Passing (passing-none phase) (trace p (ticksIn left)) (pause-passes p left left h (le-refl left))
+            none-entered phase Passing (passing-none phase) (trace p (singleTicks left)) (pause-passes p left left h (le-refl left))
             ∙ sym (ap oneIf (pausing-none phase (runOf p) left e));
       }
 
@@ -174,29 +173,29 @@ tallying = 0
 
 -- what a tally says of the ticks that it has used
 pub record True (phase : ℕ) (p : Pump) (t : Tally) : Type 0 where
-  pub there : after p (ticksIn (t .used)) ≡ pumpWithCore p (t .place)
-  pub counted : entries phase (trace p (ticksIn (t .used))) ≡ t .seen
+  pub there : after p (singleTicks (t .used)) ≡ pumpWithCore p (t .place)
+  pub counted : entries phase (trace p (singleTicks (t .used))) ≡ t .seen
 
 -- the same place, when k more ticks have gone by
 abbrev pub waited : Tally → ℕ → Tally
 waited t k = record { place = t .place; used = t .used + k; seen = t .seen }
 
 -- ticks in two parts
-after-ticks : (p : Pump) (m n : ℕ) → after p (ticksIn (m + n)) ≡ after (after p (ticksIn m)) (ticksIn n)
-after-ticks p m n = ap (after p) (ticks-both m n) ∙ after-both p (ticksIn m) (ticksIn n)
+after-ticks : (p : Pump) (m n : ℕ) → after p (singleTicks (m + n)) ≡ after (after p (singleTicks m)) (singleTicks n)
+after-ticks p m n = ap (after p) (ticks-both m n) ∙ after-both p (singleTicks m) (singleTicks n)
 
 entries-ticks :
     (phase : ℕ) (p : Pump) (m n : ℕ)
-    → entries phase (trace p (ticksIn (m + n)))
-    ≡ entries phase (trace p (ticksIn m)) + entries phase (trace (after p (ticksIn m)) (ticksIn n))
+    → entries phase (trace p (singleTicks (m + n)))
+    ≡ entries phase (trace p (singleTicks m)) + entries phase (trace (after p (singleTicks m)) (singleTicks n))
 entries-ticks phase p m n =
     ap (λ (cs : List Call). entries phase (trace p cs)) (ticks-both m n)
-    ∙ ap (entries phase) (trace-both p (ticksIn m) (ticksIn n))
-    ∙ entries-both phase (trace p (ticksIn m)) (trace (after p (ticksIn m)) (ticksIn n))
+    ∙ ap (entries phase) (trace-both p (singleTicks m) (singleTicks n))
+    ∙ entries-both phase (trace p (singleTicks m)) (trace (after p (singleTicks m)) (singleTicks n))
 
 module _ (phase : ℕ) (p : Pump) (w : Whole p) where
   whole-there : (t : Tally) → True phase p t → Whole (pumpWithCore p (t .place))
-  whole-there t h = subst Whole (h .there) (after-whole p (ticksIn (t .used)) w)
+  whole-there t h = subst Whole (h .there) (after-whole p (singleTicks (t .used)) w)
 
   next-true : (t : Tally) → True phase p t → True phase p (next phase (p .phases) t)
   unfolding next
@@ -205,12 +204,12 @@ module _ (phase : ℕ) (p : Pump) (w : Whole p) where
       record {
         there =
             after-ticks p (t .used) (span (t .place .run))
-            ∙ ap (λ (q : Pump). after q (ticksIn (span (t .place .run)))) (h .there)
+            ∙ ap (λ (q : Pump). after q (singleTicks (span (t .place .run)))) (h .there)
             ∙ l .there;
         counted =
             entries-ticks phase p (t .used) (span (t .place .run))
             ∙ ap₂ (λ (a b : ℕ). a + b) (h .counted)
-            (ap (λ (q : Pump). entries phase (trace q (ticksIn (span (t .place .run))))) (h .there) ∙ l .counted);
+            (ap (λ (q : Pump). entries phase (trace q (singleTicks (span (t .place .run))))) (h .there) ∙ l .counted);
       }
 
   onwards-true : (n : ℕ) (t : Tally) → True phase p t → True phase p (onwards phase (p .phases) n t)
@@ -219,7 +218,7 @@ module _ (phase : ℕ) (p : Pump) (w : Whole p) where
   onwards-true (suc n) t h = onwards-true n (next phase (p .phases) t) (next-true t h)
 
   pub tallied : (n : ℕ) → True phase p (tally phase p n)
-  unfolding tally after trace ticksIn entries
+  unfolding tally after trace singleTicks entries
   tallied n = onwards-true n (record { place = coreOf p; used = 0; seen = 0 }) (record { there = refl; counted = refl })
 
   -- a tally that ends in a stopped pump has seen all that there ever is
@@ -234,11 +233,11 @@ module _ (phase : ℕ) (p : Pump) (w : Whole p) where
       let q : Pump = pumpWithCore p (t .place) in
       let sound : isSoundPump q ≡ true = whole-there t h .sound in
       record {
-        there = after-ticks p (t .used) k ∙ ap (λ (x : Pump). after x (ticksIn k)) (h .there) ∙ stopped-after q sound alarm e k;
+        there = after-ticks p (t .used) k ∙ ap (λ (x : Pump). after x (singleTicks k)) (h .there) ∙ stopped-after q sound alarm e k;
         counted =
             entries-ticks phase p (t .used) k
             ∙ ap₂ (λ (a b : ℕ). a + b) (h .counted)
-            (ap (λ (x : Pump). entries phase (trace x (ticksIn k))) (h .there)
-            ∙ none-entered phase Standing (standing-none phase) (trace q (ticksIn k)) (stopped-stands q sound alarm e k))
+            (ap (λ (x : Pump). entries phase (trace x (singleTicks k))) (h .there)
+            ∙ none-entered phase Standing (standing-none phase) (trace q (singleTicks k)) (stopped-stands q sound alarm e k))
             ∙ add-zero (t .seen);
       }

@@ -16,9 +16,9 @@ use Rattle.pump.specs.Holder.{modelPhases, freshPump}
 use Rattle.pump.specs.Reports.{refusalNumber}
 use Rattle.pump.specs.declared.holder.Pump.{Pump}
 use Rattle.pump.specs.declared.reports.Report.{Report}
-use Rattle.statement.specs.Histories.{Call, byteIn, pinAt, tickIn, Event, trace}
+use Rattle.statement.specs.Histories.{Call, byteIn, pinAt, tickIn, ticksIn, Event, trace, singleTicks}
 use Rattle.condition3.specs.Books.{Books, Doing, nothing, visiting, Visit, isWhole, blank, books}
-use Rattle.condition3.specs.Sending.{lines, ticksIn}
+use Rattle.condition3.specs.Sending.{lines}
 
 -- the pump just switched on, from which every row goes   (01, Commands: Power-up)
 abbrev pub atPowerUp : Pump
@@ -66,7 +66,7 @@ oneIf t = if t then 1 else 0
 
 -- ---- f, h, i: the visits in the observer's books, when lines are sent and n ticks go by (specs/Books.antt of condition 3)
 unfoldable pub booksAfter : List String → ℕ → Books
-booksAfter ts n = books blank (trace atPowerUp (lines ts ++ ticksIn n))
+booksAfter ts n = books blank (trace atPowerUp (lines ts ++ singleTicks n))
 
 -- how many are under way; of each that is over, 1 if it ended of itself, else 0, and its steps
 abbrev pub inProgress : Doing → ℕ
@@ -96,7 +96,7 @@ dispenses c ts n steps =
 unfoldable pub entering : ℕ → Run → Bool
 entering phase r = isOperating r && (isEntering (r .place .work) && eqb (r .place .current) phase)
 
--- the event is a tick that was not refused, whose number is 0, and entered it
+-- the event is a tick that was not refused, whose number is 0, and entered it; a row has none but single ticks
 abbrev pub isAccepted : Report → Bool
 isAccepted r = eqb (refusalNumber (r .refusal)) 0
 
@@ -104,6 +104,7 @@ abbrev pub isTick : Call → Bool
 isTick (byteIn b buffer) = false
 isTick (pinAt pin level) = false
 isTick tickIn = true
+isTick (ticksIn n) = false
 
 abbrev pub tickTaken : Event → Bool
 tickTaken e = isTick (e .call) && isAccepted (e .report)
@@ -117,4 +118,4 @@ entries phase (e ∷ es) = oneIf (entersPhase phase e) + entries phase es
 
 abbrev pub visitsPhase : Char → ℕ → List String → ℕ → ℕ → Row
 visitsPhase c phase ts n times =
-    record { mark = letter c; paper = times ∷ []; given = λ k. entries phase (trace atPowerUp (lines ts ++ ticksIn (n + k))) ∷ [] }
+    record { mark = letter c; paper = times ∷ []; given = λ k. entries phase (trace atPowerUp (lines ts ++ singleTicks (n + k))) ∷ [] }

@@ -14,9 +14,9 @@ use Rattle.pump.specs.Calls.{byteReport, byteBuffer, pinCall}
 use Rattle.pump.specs.declared.holder.Pump.{Pump}
 use Rattle.pump.specs.Reports.{isRefused}
 use Rattle.pump.specs.declared.reports.Report.{Report}
-use Rattle.many.specs.Ticking.{ticks}
-use Rattle.many.specs.declared.Ticked.{Ticked}
 use Rattle.script.specs.Places.{newline}
+use Rattle.player.specs.Elapsing.{elapsed}
+use Rattle.player.specs.declared.elapsing.Elapsed.{Elapsed}
 use Rattle.player.specs.Printing.{Prints, complaintLine, unframed, countsLine}
 use Rattle.player.specs.Rigs.{withPump, zeros, reportOn, bufferOn, answerLine, sentRig, sentLine, sendRig, sendLines}
 use Rattle.player.specs.Rigs.{finishRig, finishLines, setRig, setLines, runRig, runLines, rigAfter, printed}
@@ -156,14 +156,14 @@ set-acted g pin level r t a e q w z =
 
 -- ---- ticks
 pub run-acted :
-    {l m : List ℕ} {i j : ℕ} (g : Rig) (n : ℕ) (t : Ticked) (a : Acted)
-    → t ≡ ticks n (g .pump)
-    → Prints l m i j 69 (if t .sound then countsLine n (t .infused) (t .withdrawn) else complaintLine)
+    {l m : List ℕ} {i j : ℕ} (g : Rig) (n : ℕ) (t : Elapsed) (a : Acted)
+    → t ≡ elapsed n (g .pump)
+    → Prints l m i j 69 (if t .refused then complaintLine else countsLine n (t .infused) (t .withdrawn))
     → a ≡ record { rig = holding (t .pump) (g .replied); end = j }
     → (a .rig ≡ runRig g n) × Prints l m i (a .end) 69 (runLines g n)
 unfolding runRig runLines
 run-acted g n t a f w z =
-    rw z (ap (λ (u : Ticked). withPump g (u .pump)) f, prints-as (w .wrote) (rw f) (w .few))
+    rw z (ap (λ (u : Elapsed). withPump g (u .pump)) f, prints-as (w .wrote) (rw f) (w .few))
 
 -- ---- every act
 module _ (g : Rig) (a : Act) where

@@ -112,11 +112,11 @@ module _ (test : Bool) where
 
   module _ (line : List ℕ) where
     pub ticks-counted :
-        {l m : List ℕ} {i j : ℕ} → test ≡ true → Prints l m i j 69 line → Prints l m i j 69 (if test then line else complaintLine)
+        {l m : List ℕ} {i j : ℕ} → test ≡ false → Prints l m i j 69 line → Prints l m i j 69 (if test then complaintLine else line)
     ticks-counted e w = prints-as (w .wrote) (rw e) (w .few)
 
     pub ticks-refused :
-        {l m : List ℕ} {i j : ℕ} → test ≡ false → Wrote l m i j complaintLine → Prints l m i j 69 (if test then line else complaintLine)
+        {l m : List ℕ} {i j : ℕ} → test ≡ true → Wrote l m i j complaintLine → Prints l m i j 69 (if test then complaintLine else line)
     ticks-refused e w = prints-as w (rw e) (omega (arith, w .ends))
 
 pub ruleset printing = (framed-line, label-prints, counts-prints)

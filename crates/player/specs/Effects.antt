@@ -3,13 +3,13 @@
 use Prim.Native.Nat.{ℕ}
 use mathlib.Core.List.{List, [], _∷_, _++_}
 use Rattle.base.specs.If.{if_then_else_}
-use Rattle.many.specs.Ticking.{ticks}
 use Rattle.pump.specs.Calls.{pinCall}
 use Rattle.pump.specs.Holder.{modelPhases, freshPump}
 use Rattle.pump.specs.Reports.{isRefused}
 use Rattle.pump.specs.declared.holder.Pump.{Pump}
 use Rattle.script.specs.Items.{Item, say, level, elapse, noItem, linesOf, itemOf}
 use Rattle.script.specs.Places.{carriageReturn, newline}
+use Rattle.player.specs.Elapsing.{elapsed}
 use Rattle.player.specs.Printing.{complaintLine, countsLine}
 use Rattle.player.specs.Rigs.{reportOn, bufferOn, answerLine}
 
@@ -31,7 +31,7 @@ orEmptyLine (b ∷ s) = b ∷ s
 abbrev pub pumpAfter : Pump → Item → Pump
 pumpAfter p (say s) = pumpSent p (s ++ (carriageReturn ∷ []))
 pumpAfter p (level pin high) = pinCall p pin high .pump
-pumpAfter p (elapse n) = ticks n p .pump
+pumpAfter p (elapse n) = elapsed n p .pump
 pumpAfter p noItem = p
 
 -- ---- and what it prints
@@ -39,7 +39,7 @@ abbrev pub itemLines : Pump → Item → List ℕ
 itemLines p (say s) = orEmptyLine (answers p (s ++ (carriageReturn ∷ [])))
 itemLines p (level pin high) = if isRefused (pinCall p pin high .refusal) then complaintLine else []
 itemLines p (elapse n) =
-    if ticks n p .sound then countsLine n (ticks n p .infused) (ticks n p .withdrawn) else complaintLine
+    if elapsed n p .refused then complaintLine else countsLine n (elapsed n p .infused) (elapsed n p .withdrawn)
 itemLines p noItem = complaintLine
 
 -- ---- line by line: all that is printed, and the pump behind the last line

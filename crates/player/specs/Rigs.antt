@@ -11,8 +11,8 @@ use Rattle.pump.specs.Reports.{isRefused}
 use Rattle.pump.specs.declared.holder.Pump.{Pump}
 use Rattle.pump.specs.declared.reports.Report.{Report}
 use Rattle.script.specs.Places.{carriageReturn, newline}
+use Rattle.player.specs.Elapsing.{elapsed}
 use Rattle.player.specs.Printing.{complaintLine, unframed, countsLine}
-use Rattle.many.specs.Ticking.{ticks}
 use Rattle.script.specs.declared.places.Act.{Act}
 use Rattle.script.specs.declared.places.Act.the-variants.{Wait, Send, Finish, Set, Run, Complain}
 use Rattle.player.specs.declared.rigs.Rig.{Rig}
@@ -80,13 +80,13 @@ setLines g pin level = if isRefused (pinCall (g .pump) pin level .refusal) then 
 
 -- ---- `T n`: n ticks and the counts of their steps; ticks are refused where the state is not sound
 unfoldable pub runRig : Rig → ℕ → Rig
-runRig g n = withPump g (ticks n (g .pump) .pump)
+runRig g n = withPump g (elapsed n (g .pump) .pump)
 
 unfoldable pub runLines : Rig → ℕ → List ℕ
 runLines g n =
-    if ticks n (g .pump) .sound
-    then countsLine n (ticks n (g .pump) .infused) (ticks n (g .pump) .withdrawn)
-    else complaintLine
+    if elapsed n (g .pump) .refused
+    then complaintLine
+    else countsLine n (elapsed n (g .pump) .infused) (elapsed n (g .pump) .withdrawn)
 
 -- ---- every act: the rig after it, and what it prints
 abbrev pub rigAfter : Rig → Act → Rig

@@ -30,7 +30,7 @@ pub fn answer_line(refused: bool, n: usize, answer: &[u8], out: &mut [u8], at: u
 
 // The counts of ticks, unless they were refused.
 pub fn ticks_line(
-    taken: bool,
+    refused: bool,
     n: u64,
     infused: u64,
     withdrawn: u64,
@@ -39,13 +39,13 @@ pub fn ticks_line(
 ) -> usize
     requires { ⌜ at + 69 ≤ length (now out) ⌝ }
     ensures { λ r. ⌜
-        Prints (now (out .entry)) (now (out .exit)) at r 69 (if taken then countsLine n infused withdrawn else complaintLine)
+        Prints (now (out .entry)) (now (out .exit)) at r 69 (if refused then complaintLine else countsLine n infused withdrawn)
         ⌝ }
 {
-    if taken {
-        return counts(n, infused, withdrawn, out, at);
+    if refused {
+        return complaint(out, at);
     }
-    complaint(out, at)
+    counts(n, infused, withdrawn, out, at)
 }
 
 // A call that prints nothing unless it was refused.
@@ -99,7 +99,7 @@ fn counts(n: u64, infused: u64, withdrawn: u64, out: &mut [u8], at: usize) -> us
 }
 
 // A letter, a count, and the byte that stands behind it.
-fn labelled(letter: u8, n: u64, behind: u8, out: &mut [u8], at: usize) -> usize
+pub fn labelled(letter: u8, n: u64, behind: u8, out: &mut [u8], at: usize) -> usize
     requires { ⌜ at + 23 ≤ length (now out) ⌝ }
     ensures { λ r. ⌜ Prints (now (out .entry)) (now (out .exit)) at r 23 (letter ∷ 32 ∷ (decimal n ++ behind ∷ [])) ⌝ }
 {

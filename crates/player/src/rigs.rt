@@ -5,12 +5,12 @@ ghost use lib.ListN.{length};
 ghost use Rattle.player.specs.Printing.{Prints};
 ghost use Rattle.player.specs.Rigs.{freshRig, rigAfter, printed, sentRig, sentLine, sendRig, sendLines};
 ghost use Rattle.player.specs.Rigs.{finishRig, finishLines, setRig, setLines, runRig, runLines};
+use crate::elapsing::elapse;
 use crate::printing::answer_line;
 use crate::printing::complaint;
 use crate::printing::refusal_line;
 use crate::printing::silence_line;
 use crate::printing::ticks_line;
-use many::ticks;
 use pump::Pump;
 use pump::Refusal;
 use script::Act;
@@ -121,23 +121,23 @@ impl Rig {
         )
     }
 
-    // Ticks, and the counts of their steps. A tick is refused where the state is not sound.
+    // Ticks, and the counts of their steps. They are refused where the state is not sound.
     fn run(self, n: u32, out: &mut [u8], at: usize) -> Acted
         requires { ⌜ at + 69 ≤ length (now out) ⌝ }
         ensures { λ r. ⌜
             (r .rig ≡ runRig self n) × Prints (now (out .entry)) (now (out .exit)) at (r .end) 69 (runLines self n)
             ⌝ }
     {
-        let ticked = ticks(self.pump, n);
+        let elapsed = elapse(self.pump, n);
         let end = ticks_line(
-            ticked.sound,
+            elapsed.refused,
             n as u64,
-            ticked.infused,
-            ticked.withdrawn,
+            elapsed.infused,
+            elapsed.withdrawn,
             out,
             at,
         );
-        Acted::new(ticked.pump, self.replied, end)
+        Acted::new(elapsed.pump, self.replied, end)
     }
 }
 

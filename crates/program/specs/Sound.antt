@@ -1,7 +1,7 @@
 -- When the core is sound, clause by clause, for a number of phases and with the current phase in hand. By the
 -- types of the state hold: at most one of visit, timed pause and trigger wait is under way; the store is 0 outside a visit; an alarm is
 -- pending only in a stopped pump.   (01, Calls)
-use Prim.Native.Nat.{ℕ, _+_, _≤_}
+use Prim.Native.Nat.{ℕ, _+_}
 use mathlib.Core.Path.{_≡_}
 use mathlib.Core.Bool.{Bool, true, false, _&&_, _||_}
 use mathlib.Core.List.{List, [], _∷_}
@@ -101,6 +101,5 @@ isSoundCore phases s here = all (coreTests phases s here)
 
 -- ---- a table in which every phase is sound, and one that stops follows the last
 pub record Table (phases : ℕ) (look : ℕ → Phase) : Type 0 where
-  pub few : phases ≤ 99
   pub every : (n : ℕ) → isSoundPhase phases (look n) ≡ true
   pub past : look (phases + 1) .function ≡ f.Stp

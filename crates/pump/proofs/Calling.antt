@@ -1,4 +1,4 @@
--- The calls by what was tested and what was called: the tick, the pin and the byte, and what each refuses.
+-- The calls by what was tested and what was called: the pin and the byte, and what each call refuses.
 -- Assumes nothing.
 use Prim.Native.Nat.{ℕ, _+_, _≤_, _<_}
 use mathlib.Core.Path.{_≡_, refl, sym, ap, _∙_}
@@ -6,9 +6,9 @@ use mathlib.Core.Logic.{_⊎_, inl, inr, ⊎-elim}
 use mathlib.Core.Bool.{Bool, true, false}
 use mathlib.Core.List.{List}
 use native.Mathlib.Omega.{arith}
-use lib.Dec.{leb, eqb}
+use lib.Dec.{leb, ltb, eqb}
 use lib.ListN.{length}
-use borrow.Author.Tests.{lt-ltb, le-ltb, ne-eqb}
+use borrow.Author.Tests.{lt-ltb, le-ltb, ltb-false, ne-eqb}
 use Rattle.base.specs.If.{if_then_else_}
 use Rattle.base.proofs.Choices.{false-true}
 use Rattle.words.specs.declared.answers.Said.{Said}
@@ -17,33 +17,28 @@ use Rattle.words.specs.declared.phases.Phase.{Phase}
 use Rattle.program.specs.Runs.{isOperating}
 use Rattle.program.specs.Statuses.{inHand}
 use Rattle.program.proofs.Parts.{core-clauses, run-clauses}
-use Rattle.tick.specs.Ticks.{Ready, tick, silent}
-use Rattle.tick.specs.declared.Moved.{Moved}
+use Rattle.leap.specs.Leaps.{mostTicks}
 use Rattle.line.specs.Lines.{afterByte}
 use Rattle.line.specs.declared.lines.Arrived.{Arrived}
 use Rattle.line.specs.declared.lines.Line.{Line}
 use Rattle.answer.specs.Answers.{room, lengthIn, bufferAfter}
 use Rattle.pump.specs.Calls as calls
-use Rattle.pump.specs.Calls.{Handy, tickCall, pinCall, afterLine, hear, answered, received, receivedBuffer}
+use Rattle.pump.specs.Calls.{Handy, pinCall, afterLine, hear, answered, received, receivedBuffer}
 use Rattle.pump.specs.Calls.{byteReport, byteBuffer}
 use Rattle.pump.specs.Device.{withLine, edge, hearLine, said}
-use Rattle.pump.specs.Holder.{phaseCount, phaseAt, hereOf, withDevice, edited, isSoundPump, checked}
-use Rattle.pump.specs.Reports.{isPin, unless, ofPin, ofByte, isRefused, refused, reported, movedBy}
+use Rattle.pump.specs.Holder.{phaseCount, phaseAt, hereOf, withDevice, edited, isSoundPump}
+use Rattle.pump.specs.Reports.{isPin, ofPin, ofByte, ofTicks, isRefused, refused, reported}
 use Rattle.pump.specs.declared.calls.Listened.{Listened}
-use Rattle.pump.specs.declared.checks.Checked.{Checked}
 use Rattle.pump.specs.declared.device.Device.{Device}
 use Rattle.pump.specs.declared.device.Heard.{Heard}
 use Rattle.pump.specs.declared.holder.Pump.{Pump}
 use Rattle.pump.specs.declared.reports.Refusal.{Refusal}
-use Rattle.pump.specs.declared.reports.Refusal.the-variants.{Accepted, ShortBuffer, NoPin, NoLevel, Unsound}
+use Rattle.pump.specs.declared.reports.Refusal.the-variants.{Accepted, ShortBuffer, NoPin, NoLevel, Unsound, TooManyTicks}
 use Rattle.pump.specs.declared.reports.Report.{Report}
-use Rattle.pump.proofs.Kept.{pump-core, table-here}
+use Rattle.pump.proofs.Kept.{pump-core}
 
 -- ---- what a sound pump lends to the rules
 module _ (p : Pump) (few : phaseCount p ≤ 99) (e : isSoundPump p ≡ true) where
-  ready : Ready (p .device .core) (hereOf p)
-  ready = record { phases = phaseCount p; few = few; core = pump-core p e; phase = table-here p few e .every (p .device .core .run .place .current) }
-
   handy : Handy p
   handy =
       let c = core-clauses (phaseCount p) (p .device .core) (hereOf p) (pump-core p e) in
@@ -61,28 +56,6 @@ hand-few p h false k = rw k (h .chosen-few)
 
 pub few-in-hand : (p : Pump) (n : ℕ) → Handy p → n ≡ inHand (p .device .core) → n ≤ 100
 few-in-hand p n h e = rw e (hand-few p h (isOperating (p .device .core .run)) refl)
-
--- ---- the tick: of a sound pump by the rules, of any other none
-tick-by :
-    (p : Pump) (sound : Bool)
-    → sound ≡ isSoundPump p
-    → movedBy p (if sound then tick (p .device .core) (hereOf p) else silent (p .device .core)) (unless sound) ≡ tickCall p
-unfolding tickCall
-tick-by p true s = sym (simp (sym s))
-tick-by p false s = sym (simp (sym s))
-
-module _ (p : Pump) (k : Checked) (c : k ≡ checked p) where
-  pub ready-checked : phaseCount p ≤ 99 → k .sound ≡ true → Ready (p .device .core) (k .here)
-  ready-checked few e = rw (ap (λ x. x .here) c) (ready p few (sym (ap (λ x. x .sound) c) ∙ e))
-
-  pub tick-checked :
-      (m : Moved) (refusal : Refusal) (r : Report)
-      → m ≡ (if k .sound then tick (p .device .core) (k .here) else silent (p .device .core))
-      → refusal ≡ unless (k .sound)
-      → r ≡ movedBy p m refusal
-      → r ≡ tickCall p
-  tick-checked m refusal r a b q =
-      q ∙ rw (a, b, ap (λ x. x .here) c) (tick-by p (k .sound) (ap (λ x. x .sound) c))
 
 -- ---- the refusal of a pin and of a byte, by what is tested
 module _ (sound : Bool) (pin level : ℕ) where
@@ -125,6 +98,21 @@ module _ (sound : Bool) (size : ℕ) where
 
 pub ruleset bytes = (short, byte-accepted, byte-unsound)
 
+module _ (sound : Bool) (n : ℕ) where
+  pub too-many : sound ≡ true → mostTicks < n → TooManyTicks ≡ ofTicks sound n
+  unfolding ofTicks
+  too-many e k = sym (simp (e, lt-ltb mostTicks n k))
+
+  pub ticks-accepted : sound ≡ true → n ≤ mostTicks → Accepted ≡ ofTicks sound n
+  unfolding ofTicks
+  ticks-accepted e k = sym (simp (e, le-ltb mostTicks n k))
+
+  pub ticks-unsound : sound ≡ false → Unsound ≡ ofTicks sound n
+  unfolding ofTicks
+  ticks-unsound e = sym (simp e)
+
+pub ruleset many = (too-many, ticks-accepted, ticks-unsound)
+
 -- ---- what is not refused is of a sound state
 pin-sound : (sound : Bool) (pin level : ℕ) → isRefused (ofPin sound pin level) ≡ false → sound ≡ true
 unfolding ofPin
@@ -135,6 +123,24 @@ byte-sound : (sound : Bool) (size : ℕ) → isRefused (ofByte sound size) ≡ f
 unfolding ofByte
 byte-sound true size h = refl
 byte-sound false size h = false-true (sym h)
+
+pub accepted-as : (sound : Bool) (n : ℕ) → isRefused (ofTicks sound n) ≡ false → ofTicks sound n ≡ Accepted
+unfolding ofTicks
+accepted-as true n h = by (ltb mostTicks n) h
+  where
+    by : (t : Bool) → isRefused (if t then TooManyTicks else Accepted) ≡ false → (if t then TooManyTicks else Accepted) ≡ Accepted
+    by true z = false-true (sym z)
+    by false z = refl
+accepted-as false n h = false-true (sym h)
+
+pub many-taken : (sound : Bool) (n : ℕ) → isRefused (ofTicks sound n) ≡ false → (sound ≡ true) × (n ≤ mostTicks)
+unfolding ofTicks
+many-taken true n h = (refl, by (ltb mostTicks n) refl h)
+  where
+    by : (t : Bool) → ltb mostTicks n ≡ t → isRefused (if t then TooManyTicks else Accepted) ≡ false → n ≤ mostTicks
+    by true k z = false-true (sym z)
+    by false k z = ltb-false mostTicks n k
+many-taken false n h = false-true (sym h)
 
 -- ---- the pin and the byte: refused, or done
 module _ (p : Pump) (u : Bool) (s : u ≡ isSoundPump p) (x : Refusal) (t : Bool) (tested : t ≡ isRefused x) (r : Report) where

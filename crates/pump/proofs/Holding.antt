@@ -1,23 +1,20 @@
--- The pump by its parts: the whole tested, power-up, the edit that a command asks for, and a tick's report.
+-- The pump by its parts: the whole tested, power-up, the edit that a command asks for, and a flag as a count.
 -- Assumes nothing.
-use Prim.Native.Nat.{ℕ}
+use Prim.Native.Nat.{ℕ, _≤_}
 use mir.Val as mir-val
 use mathlib.Core.Path.{_≡_, refl, sym, ap, _∙_}
-use mathlib.Core.Bool.{Bool, true, false}
+use mathlib.Core.Bool.{Bool, true, false, not}
+use native.Mathlib.Omega.{arith}
 use lib.ListN.{set, replicate}
 use Rattle.base.specs.If.{if_then_else_}
 use Rattle.words.specs.Phases.{powerUp}
 use Rattle.words.specs.declared.phases.Phase.{Phase}
-use Rattle.tick.specs.declared.Moved.{Moved}
 use Rattle.command.specs.declared.obeying.Edit.{Edit}
-use Rattle.pump.specs.Device.{powerUpDevice, isSoundDevice, withCore}
+use Rattle.pump.specs.Device.{powerUpDevice, isSoundDevice}
 use Rattle.pump.specs.Holder as holder
-use Rattle.pump.specs.Holder.{phaseCount, hereOf, withDevice, freshPump, edited, isSoundPhases, isSoundPump}
-use Rattle.pump.specs.Reports.{movedBy}
-use Rattle.pump.specs.declared.checks.Checked.{Checked}
+use Rattle.pump.specs.Holder.{phaseCount, hereOf, freshPump, edited, isSoundPhases, isSoundPump}
 use Rattle.pump.specs.declared.device.Device.{Device}
 use Rattle.pump.specs.declared.holder.Pump.{Pump}
-use Rattle.pump.specs.declared.reports.Refusal.{Refusal}
 
 -- ---- the whole tested
 module _ (p : Pump) (b : Bool) (k : b ≡ isSoundPhases (phaseCount p) (p .phases)) where
@@ -35,9 +32,6 @@ module _ (p : Pump) (b : Bool) (k : b ≡ isSoundPhases (phaseCount p) (p .phase
   unfolding isSoundPump
   phase-unsound e = simp (sym k ∙ e)
 
-pub checked-as : (p : Pump) (k : Checked) → k .here ≡ hereOf p → k .sound ≡ isSoundPump p → k ≡ holder.checked p
-checked-as p k a b = λ i. record { here = a i; sound = b i }
-
 -- ---- power-up
 pub fresh-as :
     (count : ℕ) (first other : Phase) (device : Device)
@@ -52,23 +46,20 @@ fresh-as count first other device a b k = rw (a, b, k)
 pub edited-by : (p r : Pump) (n : ℕ) (edit k : Edit) → edit ≡ k → r ≡ edited p n k → r ≡ edited p n edit
 edited-by p r n edit k e q = q ∙ ap (edited p n) (sym e)
 
--- ---- a tick's report: a flag as a count
-counted : (b : Bool) → mir-val.boolByte b ≡ (if b then 1 else 0)
+-- ---- a flag turned over
+pub not-false : (b : Bool) → not b ≡ false → b ≡ true
+not-false true e = refl
+not-false false e = sym e
+
+pub not-true : (b : Bool) → not b ≡ true → b ≡ false
+not-true true e = sym e
+not-true false e = refl
+
+-- ---- a flag as a count
+pub counted : (b : Bool) → mir-val.boolByte b ≡ (if b then 1 else 0)
 counted true = refl
 counted false = refl
 
-pub moved-as :
-    (p held : Pump) (v : Device) (m : Moved) (refusal : Refusal)
-    → v ≡ withCore (p .device) (m .core)
-    → held ≡ withDevice p v
-    → record {
-      pump = held;
-      length = 0;
-      infused = m .infused;
-      withdrawn = m .withdrawn;
-      beeps = mir-val.boolByte (m .beep);
-      refusal = refusal;
-      output = m .core .output;
-    }
-    ≡ movedBy p m refusal
-moved-as p held v m refusal a b = rw (b, a, counted (m .beep))
+pub bool-few : (b : Bool) → mir-val.boolByte b ≤ 1
+bool-few true = omega arith
+bool-few false = omega arith

@@ -1,6 +1,6 @@
 -- A sound pump taken apart into its phases, its core and its line, and put together again; its phases as a table; whatever their number.
 -- Assumes nothing.
-use Prim.Native.Nat.{ℕ, zero, suc, _+_, _≤_}
+use Prim.Native.Nat.{ℕ, zero, suc, _+_}
 use mathlib.Core.Path.{_≡_, refl, ap}
 use mathlib.Core.Bool.{Bool, true}
 use mathlib.Core.List.{List, [], _∷_}
@@ -68,9 +68,9 @@ past-stops : (ps : List Phase) → phaseAt ps (length ps + 1) ≡ stopPhase
 unfolding phaseAt
 past-stops ps = List·getD-eq-default (stopPhase ∷ ps) stopPhase {n = length ps + 1} (omega arith)
 
-pub table-of : (ps : List Phase) → length ps ≤ 99 → isSoundPhases (length ps) ps ≡ true → Table (length ps) (phaseAt ps)
-table-of ps h e =
-    record { few = h; every = λ n. sound-at (length ps) ps n e; past = ap (λ (x : Phase). x .function) (past-stops ps) }
+pub table-of : (ps : List Phase) → isSoundPhases (length ps) ps ≡ true → Table (length ps) (phaseAt ps)
+table-of ps e =
+    record { every = λ n. sound-at (length ps) ps n e; past = ap (λ (x : Phase). x .function) (past-stops ps) }
 
 -- ---- another core
 abbrev pub withPumpCore : Pump → Core → Pump
@@ -85,6 +85,5 @@ module _ (p : Pump) where
   unfolding tickCall
   sound-tick e = rw e refl
 
-  module _ (h : phaseCount p ≤ 99) (e : isSoundPump p ≡ true) where
-    pub table-here : Table (phaseCount p) (phaseAt (p .phases))
-    table-here = table-of (p .phases) h (pump-phases p e)
+  pub table-here : isSoundPump p ≡ true → Table (phaseCount p) (phaseAt (p .phases))
+  table-here e = table-of (p .phases) (pump-phases p e)

@@ -1,5 +1,5 @@
--- The calls, refusals included: for each the new state, the whole report and, for a byte, the whole buffer.   (01, Calls)
-use Prim.Native.Nat.{ℕ, _+_, _≤_}
+-- The calls, refusals included: for each the new state, the whole report and, for a byte, the whole buffer.   (01, Calls; 02, 1/12)
+use Prim.Native.Nat.{ℕ, zero, suc, _+_, _≤_}
 use mathlib.Core.List.{List}
 use lib.Dec.{eqb}
 use lib.ListN.{length}
@@ -13,7 +13,7 @@ use Rattle.line.specs.declared.lines.Arrived.{Arrived}
 use Rattle.answer.specs.Answers.{lengthIn, bufferAfter}
 use Rattle.pump.specs.Device.{withLine, edge, hearLine, said}
 use Rattle.pump.specs.Holder.{phaseCount, phaseAt, hereOf, withDevice, edited, isSoundPump}
-use Rattle.pump.specs.Reports.{ofPin, ofByte, isRefused, refused, unlessRefused, reported, movedBy}
+use Rattle.pump.specs.Reports.{ofPin, ofByte, ofTicks, isRefused, refused, unlessRefused, reported, movedBy}
 use Rattle.pump.specs.declared.calls.Listened.{Listened}
 use Rattle.pump.specs.declared.device.Heard.{Heard}
 use Rattle.pump.specs.declared.device.Told.{Told}
@@ -32,6 +32,28 @@ ticked p = movedBy p (tick (p .device .core) (hereOf p)) Accepted
 
 unfoldable pub tickCall : Pump → Report
 tickCall p = if isSoundPump p then ticked p else refused p Unsound
+
+-- ---- many ticks: so many single ticks, one after the other; the last one's report, with the sums   (02, 1/12)
+abbrev pub andTick : Report → Report → Report
+andTick r t =
+    record {
+      pump = t .pump;
+      length = t .length;
+      infused = r .infused + t .infused;
+      withdrawn = r .withdrawn + t .withdrawn;
+      beeps = r .beeps + t .beeps;
+      ticks = r .ticks + t .ticks;
+      refusal = t .refusal;
+      output = t .output;
+    }
+
+unfoldable pub inTurn : ℕ → Pump → Report
+inTurn zero p = reported p 0
+inTurn (suc n) p = andTick (inTurn n p) (tickCall (inTurn n p .pump))
+
+-- 4 where the state is not sound, then 5 for too many
+unfoldable pub ticksCall : Pump → ℕ → Report
+ticksCall p n = unlessRefused p (ofTicks (isSoundPump p) n) (inTurn n p)
 
 -- ---- a pin level
 unfoldable pub pinCall : Pump → ℕ → ℕ → Report

@@ -12,7 +12,6 @@ use Rattle.words.specs.declared.phases.Phase.{Phase}
 use Rattle.command.specs.declared.obeying.Edit.{Edit}
 use Rattle.command.specs.declared.obeying.Edit.the-variants.{Keep, Write, Renew}
 use Rattle.pump.specs.Device.{powerUpDevice, isSoundDevice}
-use Rattle.pump.specs.declared.checks.Checked.{Checked}
 use Rattle.pump.specs.declared.device.Device.{Device}
 use Rattle.pump.specs.declared.holder.Pump.{Pump}
 
@@ -66,7 +65,3 @@ isSoundPhases n (p ∷ ps) = isSoundPhase n p && isSoundPhases n ps
 
 unfoldable pub isSoundPump : Pump → Bool
 isSoundPump p = isSoundPhases (phaseCount p) (p .phases) && isSoundDevice (phaseCount p) (p .device) (hereOf p)
-
--- with the current phase
-abbrev pub checked : Pump → Checked
-checked p = record { here = hereOf p; sound = isSoundPump p }

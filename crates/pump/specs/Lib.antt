@@ -2,4 +2,5 @@
 pub mod Device
 pub mod Holder
 pub mod Reports
+pub mod Going
 pub mod Calls

@@ -1,15 +1,16 @@
--- What every call hands back, and the refusals with their numbers.   (01, Calls)
+-- What every call hands back, and the refusals with their numbers.   (01, Calls; 02, 1/12)
 use Prim.Native.Nat.{ℕ}
 use mathlib.Core.Bool.{Bool, not, _||_}
 use lib.Dec.{ltb, eqb}
 use Rattle.base.specs.If.{if_then_else_}
 use Rattle.tick.specs.declared.Moved.{Moved}
+use Rattle.leap.specs.Leaps.{mostTicks, Moves}
 use Rattle.answer.specs.Answers.{room}
 use Rattle.pump.specs.Device.{withCore}
 use Rattle.pump.specs.Holder.{withDevice}
 use Rattle.pump.specs.declared.holder.Pump.{Pump}
 use Rattle.pump.specs.declared.reports.Refusal.{Refusal}
-use Rattle.pump.specs.declared.reports.Refusal.the-variants.{Accepted, ShortBuffer, NoPin, NoLevel, Unsound}
+use Rattle.pump.specs.declared.reports.Refusal.the-variants.{Accepted, ShortBuffer, NoPin, NoLevel, Unsound, TooManyTicks}
 use Rattle.pump.specs.declared.reports.Report.{Report}
 
 -- each refusal's number in the table; 0 is none
@@ -19,11 +20,9 @@ refusalNumber ShortBuffer = 1
 refusalNumber NoPin = 2
 refusalNumber NoLevel = 3
 refusalNumber Unsound = 4
+refusalNumber TooManyTicks = 5
 
--- ---- which refusal a call gets, whatever holds the phases; a call that asks for a sound state and for nothing else
-abbrev pub unless : Bool → Refusal
-unless sound = if sound then Accepted else Unsound
-
+-- ---- which refusal a call gets, whatever holds the phases
 -- a pin level: 4, then 2 where the pin is not 2, 4 or 6, then 3 where the level is not 0 or 1
 abbrev pub isPin : ℕ → Bool
 isPin pin = eqb pin 2 || eqb pin 4 || eqb pin 6
@@ -35,23 +34,27 @@ ofPin sound pin level = if sound then if isPin pin then if ltb 1 level then NoLe
 unfoldable pub ofByte : Bool → ℕ → Refusal
 ofByte sound size = if sound then if ltb size room then ShortBuffer else Accepted else Unsound
 
+-- many ticks: 4, then 5 for more than 1,000,000   (02, 1/12)
+unfoldable pub ofTicks : Bool → ℕ → Refusal
+ofTicks sound n = if sound then if ltb mostTicks n then TooManyTicks else Accepted else Unsound
+
 abbrev pub isRefused : Refusal → Bool
 isRefused refusal = not (eqb (refusalNumber refusal) 0)
 
 -- ---- what a call hands back
--- the given state, no step, no beep, no answer
+-- the given state, no step, no beep, no tick done, no answer
 abbrev pub refused : Pump → Refusal → Report
 refused p refusal =
-    record { pump = p; length = 0; infused = 0; withdrawn = 0; beeps = 0; refusal = refusal; output = p .device .core .output }
+    record { pump = p; length = 0; infused = 0; withdrawn = 0; beeps = 0; ticks = 0; refusal = refusal; output = p .device .core .output }
 
 -- a call does what it does where it is not refused
 abbrev pub unlessRefused : Pump → Refusal → Report → Report
 unlessRefused p refusal does = if isRefused refusal then refused p refusal else does
 
--- no step, and an answer of that length
+-- no step, no tick, and an answer of that length
 abbrev pub reported : Pump → ℕ → Report
 reported p n =
-    record { pump = p; length = n; infused = 0; withdrawn = 0; beeps = 0; refusal = Accepted; output = p .device .core .output }
+    record { pump = p; length = n; infused = 0; withdrawn = 0; beeps = 0; ticks = 0; refusal = Accepted; output = p .device .core .output }
 
 -- what a tick did, refused or not
 abbrev pub movedBy : Pump → Moved → Refusal → Report
@@ -62,6 +65,21 @@ movedBy p m refusal =
       infused = m .infused;
       withdrawn = m .withdrawn;
       beeps = if m .beep then 1 else 0;
+      ticks = if isRefused refusal then 0 else 1;
       refusal = refusal;
       output = m .core .output;
+    }
+
+-- what so many ticks did; where they were refused, none
+abbrev pub gone : Pump → Moves → ℕ → Refusal → Report
+gone p t n refusal =
+    record {
+      pump = withDevice p (withCore (p .device) (t .core));
+      length = 0;
+      infused = t .infused;
+      withdrawn = t .withdrawn;
+      beeps = t .beeps;
+      ticks = n;
+      refusal = refusal;
+      output = t .core .output;
     }

@@ -16,17 +16,11 @@ pub struct Listened {
 }
 
 impl Pump {
-    // One millisecond. The report is made in one place, also where the state is not sound: two places would cost a copy of the pump.
+    // One millisecond.
     pub fn tick(self) -> Report
         ensures { λ r. ⌜ r ≡ tickCall self ⌝ }
     {
-        let checked = self.checked();
-        let moved = if checked.sound {
-            tick::tick(self.device.core, checked.here)
-        } else {
-            tick::silent(self.device.core)
-        };
-        self.moved_by(moved, Refusal::unless(checked.sound))
+        self.ticks(1)
     }
 
     // A level of pin 2, 4 or 6: 0 is low, 1 is high.

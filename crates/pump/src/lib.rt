@@ -1,22 +1,25 @@
 // The pump (document 01, Calls; Line and answer): the device, which is all of the state but its phases; the holder of 41 phases; and the
-// four calls: a fresh state, a byte, a pin level and a tick. No call asks anything of its caller: whatever is handed in has its outcome,
-// and what a call refuses comes back as it was. The holder looks phases up, calls the device with them, and stores what comes back.
+// calls: a fresh state, a byte, a pin level, a tick, and many ticks at a time (document 02, 1/12). No call asks anything of its caller:
+// whatever is handed in has its outcome, and what a call refuses comes back as it was. The holder looks phases up, calls the device with
+// them, and stores what comes back.
 //
 //   device    the core and the line; what a whole line and an edge do to them
 //   holder    the phases: the state, its constants, the phase of a number, and the edit that a command asks for
 //   checks    when the whole is sound
 //   reports   what every call hands back, and the refusals
 //   calls     the byte, the pin and the tick
+//   many      many ticks at a time
 mod calls;
 mod checks;
 mod device;
 mod holder;
+mod many;
 mod reports;
 
-pub use checks::Checked;
 pub use device::Device;
 pub use device::Heard;
 pub use device::Told;
 pub use holder::Pump;
+pub use many::Going;
 pub use reports::Refusal;
 pub use reports::Report;

@@ -1,8 +1,10 @@
 // What every call hands back, and the refusals.
 ghost use mathlib.Core.Path.{_≡_};
-ghost use Rattle.pump.specs.Reports.{refusalNumber, unless, ofPin, ofByte, isRefused, refused, reported, movedBy};
+ghost use Rattle.pump.specs.Reports.{refusalNumber, ofPin, ofByte, ofTicks, isRefused};
+ghost use Rattle.pump.specs.Reports.{refused, reported, gone};
+ghost use Rattle.pump.specs.Going.{movesIn};
 use crate::holder::Pump;
-use tick::Moved;
+use crate::many::Going;
 
 pub enum Refusal {
     Accepted,
@@ -10,19 +12,10 @@ pub enum Refusal {
     NoPin,
     NoLevel,
     Unsound,
+    TooManyTicks,
 }
 
 impl Refusal {
-    // That of a call that asks for a sound state and for nothing else.
-    pub fn unless(sound: bool) -> Refusal
-        ensures { λ r. ⌜ r ≡ unless sound ⌝ }
-    {
-        if sound {
-            return Refusal::Accepted;
-        }
-        Refusal::Unsound
-    }
-
     // That of a pin's level: the state, then the pin, then the level.
     pub fn of_pin(sound: bool, pin: u8, level: u8) -> Refusal
         ensures { λ r. ⌜ r ≡ ofPin sound pin level ⌝ }
@@ -54,13 +47,26 @@ impl Refusal {
         Refusal::Unsound
     }
 
+    // That of many ticks: the state, then their number.
+    pub fn of_ticks(sound: bool, n: u32) -> Refusal
+        ensures { λ r. ⌜ r ≡ ofTicks sound n ⌝ }
+    {
+        if sound {
+            if leap::MOST_TICKS < n {
+                return Refusal::TooManyTicks;
+            }
+            return Refusal::Accepted;
+        }
+        Refusal::Unsound
+    }
+
     pub fn is_refused(self) -> bool
         ensures { λ r. ⌜ r ≡ isRefused self ⌝ }
     {
         self.number() != 0
     }
 
-    // The number in document 01's table; 0 where nothing was refused.
+    // The number in the documents' table; 0 where nothing was refused.
     pub fn number(self) -> u8
         ensures { λ r. ⌜ r ≡ refusalNumber self ⌝ }
     {
@@ -70,17 +76,20 @@ impl Refusal {
             Refusal::NoPin => 2,
             Refusal::NoLevel => 3,
             Refusal::Unsound => 4,
+            Refusal::TooManyTicks => 5,
         }
     }
 }
 
-// The pump as it is then, the steps in each direction, the beeps, the length of the answer, the refusal, and the output's level.
+// The pump as it is then, the length of the answer, the steps in each direction, the beeps, the ticks done, the refusal, and the output's
+// level.
 pub struct Report {
     pub pump: Pump,
     pub length: usize,
     pub infused: u32,
     pub withdrawn: u32,
     pub beeps: u32,
+    pub ticks: u32,
     pub refusal: Refusal,
     pub output: bool,
 }
@@ -97,6 +106,7 @@ impl Pump {
             infused: 0,
             withdrawn: 0,
             beeps: 0,
+            ticks: 0,
             refusal: refusal,
             output: output,
         }
@@ -113,23 +123,26 @@ impl Pump {
             infused: 0,
             withdrawn: 0,
             beeps: 0,
+            ticks: 0,
             refusal: Refusal::Accepted,
             output: output,
         }
     }
 
-    // A tick, refused or not.
-    pub fn moved_by(self, moved: Moved, refusal: Refusal) -> Report
-        ensures { λ r. ⌜ r ≡ movedBy self moved refusal ⌝ }
+    // So many ticks that were done; none where they were refused.
+    pub fn gone(self, going: Going, ticks: u32, refusal: Refusal) -> Report
+        ensures { λ r. ⌜ r ≡ gone self (movesIn going) ticks refusal ⌝ }
     {
+        let core = going.core;
         Report {
-            pump: self.with_device(self.device.with_core(moved.core)),
+            pump: self.with_device(self.device.with_core(core)),
             length: 0,
-            infused: moved.infused as u32,
-            withdrawn: moved.withdrawn as u32,
-            beeps: moved.beep as u32,
+            infused: going.infused,
+            withdrawn: going.withdrawn,
+            beeps: going.beeps,
+            ticks: ticks,
             refusal: refusal,
-            output: moved.core.output,
+            output: core.output,
         }
     }
 }

@@ -11,6 +11,7 @@ mod numbers;
 mod places;
 mod reading;
 
+pub use numbers::grown;
 pub use places::Act;
 pub use places::Spot;
 pub use places::Step;

@@ -57,9 +57,9 @@ module _ (phases : ℕ) (look : ℕ → Phase) (s : Core) (kept : Kept phases lo
   pub with-run-kept : (r : Run) → KeptRun phases look (s .syringe) r → Kept phases look (withRun s r)
   with-run-kept r k = given-sound r (s .ledger) (look (r .place .current)) (k .0) (k .1) (clauses .ledger-sound)
 
-  -- what the code of a tick may rely on
-  pub ready : Table phases look → Ready s here
-  ready table = record { phases = phases; few = table .few; core = kept; phase = table .every (s .run .place .current) }
+  -- what the code of a tick may rely on, which has the numbers of phases in bytes
+  pub ready : phases ≤ 99 → Table phases look → Ready s here
+  ready few table = record { phases = phases; few = few; core = kept; phase = table .every (s .run .place .current) }
 
 -- ---- no test mentions a pin or the output
 pub levels-kept :

@@ -37,11 +37,11 @@ use Rattle.pump.specs.declared.holder.Pump.{Pump}
 use Rattle.pump.proofs.Renewing.{fresh-count}
 use Rattle.pump.proofs.Kept.{pump-phases, pump-core, pump-line, table-here}
 use Rattle.statement.specs.Facts.{Sound, coreOf}
-use Rattle.statement.specs.Histories.{Call, byteIn, pinAt, tickIn, reportAfter, after, Model, Whole}
+use Rattle.statement.specs.Histories.{Call, byteIn, pinAt, tickIn, ticksIn, reportAfter, after, Model, Whole}
 use Rattle.statement.specs.Outcomes as out
-use Rattle.statement.specs.Outcomes.{Outcome, outcomeOf, numberOf, Edge, two, four, six, Does, Meets}
+use Rattle.statement.specs.Outcomes.{Outcome, outcomeOf, numberOf, InTurn, none, more, TickDone, Edge, two, four, six, Does, Meets}
 use Rattle.statement.specs.Outcomes.{pumpWithCore, emptied, carriedOut, obeying}
-use Rattle.statement.specs.Outcomes.{RefusedAs, not-sound, short-buffer, no-such-pin, no-such-level}
+use Rattle.statement.specs.Outcomes.{RefusedAs, not-sound, short-buffer, no-such-pin, no-such-level, too-many}
 use Rattle.statement.specs.Outcomes.{Hears, collected, other-address, alarm-pending, resets, obeys}
 use Rattle.statement.proofs.Outcomes.{call-meets, does-number}
 use Rattle.statement.proofs.Placing.{placed-at, placed-sound}
@@ -73,10 +73,15 @@ hears-count p b s (alarm-pending a e z k) = refl
 hears-count p b s (resets e z k r) = fresh-count (phaseCount p)
 hears-count p b s (obeys e z k) = obeyed-count p (commandIn (p .device .line))
 
+turn-count : (n : ℕ) (p q : Pump) (a b c : ℕ) → InTurn n p q a b c → phaseCount q ≡ phaseCount p
+turn-count n p q a b c (none x) = refl
+turn-count n p q a b c (more m x y i j k o t free d) = ap phaseCount (d .new-state) ∙ turn-count m x y i j k t
+
 does-count : (p : Pump) (call : Call) (o : Outcome) → Does p call o → phaseCount (o .report .pump) ≡ phaseCount p
 does-count p (byteIn b buffer) o d = ap phaseCount (d .still .new-state) ∙ hears-count p b (d .said) (d .hears)
 does-count p (pinAt pin level) o d = ap phaseCount (d .still .new-state)
 does-count p tickIn o d = ap phaseCount (d .new-state)
+does-count p (ticksIn n) o d = turn-count n p _ _ _ _ (d .in-turn)
 
 pub call-phases : (p : Pump) (call : Call) → phaseCount (reportAfter p call .pump) ≡ phaseCount p
 call-phases p call = go (call-meets p call)
@@ -94,7 +99,7 @@ module _ (p : Pump) (w : Whole p) where
   n = inHand (coreOf p)
 
   table : Table (phaseCount p) look
-  table = table-here p (w .model .few) (w .sound)
+  table = table-here p (w .sound)
 
   core-kept : Kept (phaseCount p) look (coreOf p)
   core-kept = pump-core p (w .sound)
@@ -158,11 +163,19 @@ hears-whole p w b s (alarm-pending a e z k) =
 hears-whole p w b s (resets e z k r) = subst (λ c. Whole (carriedOut p c .pump)) r (obeyed-whole p w)
 hears-whole p w b s (obeys e z k) = obeyed-whole p w
 
+tick-whole : (p : Pump) → Whole p → (o : Outcome) → TickDone p o → Whole (o .report .pump)
+tick-whole p w o d =
+    subst Whole (sym (d .new-state)) (core-whole p w _ (kept-tick (phaseCount p) (look p w) (table p w) (coreOf p) (core-kept p w)))
+
+turn-whole : (n : ℕ) (p q : Pump) (a b c : ℕ) → InTurn n p q a b c → Whole p → Whole q
+turn-whole n p q a b c (none x) w = w
+turn-whole n p q a b c (more m x y i j k o t free d) w = tick-whole y (turn-whole m x y i j k t w) o d
+
 does-whole : (p : Pump) → Whole p → (call : Call) (o : Outcome) → Does p call o → Whole (o .report .pump)
 does-whole p w (byteIn b buffer) o d = subst Whole (sym (d .still .new-state)) (hears-whole p w b (d .said) (d .hears))
 does-whole p w (pinAt pin level) o d = subst Whole (sym (d .still .new-state)) (edge-whole p w (d .is-high) pin (d .core) (d .edge))
-does-whole p w tickIn o d =
-    subst Whole (sym (d .new-state)) (core-whole p w _ (kept-tick (phaseCount p) (look p w) (table p w) (coreOf p) (core-kept p w)))
+does-whole p w tickIn o d = tick-whole p w o d
+does-whole p w (ticksIn n) o d = turn-whole n p _ _ _ _ (d .in-turn) w
 
 pub call-whole : (p : Pump) (call : Call) → Whole p → Whole (reportAfter p call .pump)
 call-whole p call w = go (call-meets p call)
@@ -197,20 +210,21 @@ pub sound-after : (n : ℕ) → Model n → (calls : List Call) → isSoundPump 
 sound-after n m calls = whole-after n m calls .sound
 
 -- ---- no call is refused because the state is not sound
-number-few : (p : Pump) → Sound p → (call : Call) (k : ℕ) → RefusedAs p call k → k ≤ 3
-number-few p s call k (not-sound any n) = absurd (n s)
-number-few p s call k (short-buffer b buffer t h) = omega arith
-number-few p s call k (no-such-pin pin level t n) = omega arith
-number-few p s call k (no-such-level pin level t y h) = omega arith
+sound-number : (p : Pump) → Sound p → (call : Call) (k : ℕ) → RefusedAs p call k → k ≡ 4 → ⊥
+sound-number p s call k (not-sound any n) e = n s
+sound-number p s call k (short-buffer b buffer t h) e = omega arith
+sound-number p s call k (no-such-pin pin level t n) e = omega arith
+sound-number p s call k (no-such-level pin level t y h) e = omega arith
+sound-number p s call k (too-many n t h) e = omega arith
 
-sound-number : (p : Pump) → Sound p → (call : Call) → numberOf (outcomeOf p call) ≤ 3
-sound-number p s call = go (call-meets p call)
+sound-taken : (p : Pump) → Sound p → (call : Call) → numberOf (outcomeOf p call) ≡ 4 → ⊥
+sound-taken p s call e = go (call-meets p call)
   where
-    go : Meets p call (outcomeOf p call) → numberOf (outcomeOf p call) ≤ 3
-    go (out.turned-down k r t) = omega (arith, t .number, number-few p s call k r)
+    go : Meets p call (outcomeOf p call) → ⊥
+    go (out.turned-down k r t) = sound-number p s call k r (sym (t .number) ∙ e)
     go (out.accepted n d) = omega (arith, does-number p call (outcomeOf p call) d)
 
 pub never-unsound : (n : ℕ) → Model n → (calls : List Call) (call : Call) → numberOf (outcomeOf (after (freshPump n) calls) call) ≡ 4 → ⊥
 never-unsound n m calls call e =
     let p = after (freshPump n) calls in
-    omega (arith, sound-number p (sound-facts p (sound-after n m calls)) call)
+    sound-taken p (sound-facts p (sound-after n m calls)) call e

@@ -14,21 +14,24 @@ use Rattle.words.specs.declared.answers.Said.{Said}
 use Rattle.program.specs.declared.state.Core.{Core}
 use Rattle.answer.specs.Answers.{answerOf, lengthIn, bufferAfter}
 use Rattle.answer.proofs.Theorems.{length-kept}
-use Rattle.pump.specs.Calls.{ticked, pinCall, hear, answered, byteReport, byteBuffer}
+use Rattle.pump.specs.Calls.{ticked, inTurn, ticksCall, pinCall, hear, answered, byteReport, byteBuffer}
 use Rattle.pump.specs.Device.{edgeOf, edge}
 use Rattle.pump.specs.Holder.{isSoundPump}
-use Rattle.pump.specs.Reports.{ofPin, ofByte, reported}
+use Rattle.pump.specs.Reports.{refusalNumber, ofPin, ofByte, ofTicks, reported}
 use Rattle.pump.specs.declared.holder.Pump.{Pump}
+use Rattle.pump.specs.declared.reports.Report.{Report}
 use Rattle.pump.proofs.Kept.{sound-tick}
+use Rattle.pump.proofs.Running.{ticks-sound, in-turn}
 use Rattle.statement.specs.Facts.{coreOf}
-use Rattle.statement.specs.Histories.{Call, byteIn, pinAt, tickIn}
+use Rattle.statement.specs.Histories.{Call, byteIn, pinAt, tickIn, ticksIn}
 use Rattle.statement.specs.Outcomes.{outcomeOf, Pin, Still, Written, TickDone, Level, low, high, Edge, two, four, six}
-use Rattle.statement.specs.Outcomes.{Levelled, ByteHeard, Does, pumpWithCore}
+use Rattle.statement.specs.Outcomes.{RefusedAs, InTurn, none, more, TicksDone, Levelled, ByteHeard, Does, pumpWithCore}
 use Rattle.statement.proofs.Hearing.{heard, hears}
-use Rattle.statement.proofs.Refusals.{Fine, pin-test}
+use Rattle.statement.proofs.Refusals.{Fine, pin-test, refused-down, refused-some}
 
 still : (q : Pump) (n : ℕ) (buffer : List ℕ) → Still q (record { report = reported q n; buffer = buffer })
-still q n buffer = record { taken = refl; new-state = refl; none-infused = refl; none-withdrawn = refl; no-beep = refl; level = refl }
+still q n buffer =
+    record { taken = refl; new-state = refl; none-infused = refl; none-withdrawn = refl; no-beep = refl; no-tick = refl; level = refl }
 
 -- ---- a tick
 tick-does : (p : Pump) → isSoundPump p ≡ true → TickDone p (outcomeOf p tickIn)
@@ -43,9 +46,43 @@ tick-does p e = subst (λ r. TickDone p (record { report = r; buffer = [] })) (s
           withdrawn = refl;
           one-beep = λ k. rw k refl;
           no-beep = λ k. rw k refl;
+          one-tick = refl;
           level = refl;
           silent = record { no-answer = refl; same-buffer = refl };
         }
+
+-- ---- many ticks: each of them finds a sound state
+not-refused : (p : Pump) → isSoundPump p ≡ true → (k : ℕ) → RefusedAs p tickIn k → ⊥
+not-refused p e k r = refused-some p tickIn k r (sym (refused-down p tickIn k r .number) ∙ tick-does p e .taken)
+
+module _ (p : Pump) (e : isSoundPump p ≡ true) where
+  pub turn-sound : (n : ℕ) → isSoundPump (inTurn n p .pump) ≡ true
+  turn-sound n = subst (λ (r : Report). isSoundPump (r .pump) ≡ true) (in-turn p e n) (ticks-sound p e n)
+
+  pub turn-ticks : (n : ℕ) → inTurn n p .ticks ≡ n
+  turn-ticks n = ap (λ (r : Report). r .ticks) (sym (in-turn p e n))
+
+  turns : (n : ℕ) → InTurn n p (inTurn n p .pump) (inTurn n p .infused) (inTurn n p .withdrawn) (inTurn n p .beeps)
+  unfolding inTurn
+  turns zero = none p
+  turns (suc n) =
+      let q = inTurn n p .pump in
+      more n p q _ _ _ (outcomeOf q tickIn) (turns n) (not-refused q (turn-sound n)) (tick-does q (turn-sound n))
+
+  pub many-taken : (n : ℕ) → n ≤ 1_000_000 → ticksCall p n ≡ inTurn n p
+  unfolding ticksCall ofTicks
+  many-taken n h = rw (e, le-ltb 1_000_000 n h) refl
+
+  ticks-do : (n : ℕ) → n ≤ 1_000_000 → TicksDone p n (outcomeOf p (ticksIn n))
+  ticks-do n h =
+      subst (λ r. TicksDone p n (record { report = r; buffer = [] })) (sym (many-taken n h))
+      (record {
+        taken = ap (λ (r : Report). refusalNumber (r .refusal)) (sym (in-turn p e n));
+        in-turn = turns n;
+        done = turn-ticks n;
+        level = subst (λ (r : Report). r .output ≡ coreOf (r .pump) .output) (in-turn p e n) refl;
+        silent = record { no-answer = ap (λ (r : Report). r .length) (sym (in-turn p e n)); same-buffer = refl };
+      })
 
 -- ---- a pin at its level
 level-of : (n : ℕ) → n ≤ 1 → Level n (eqb n 1)
@@ -131,3 +168,4 @@ pub does : (p : Pump) (call : Call) → isSoundPump p ≡ true → Fine call →
 does p (byteIn b buffer) e h = byte-does buffer h p b e
 does p (pinAt pin level) e h = pin-does p pin level (h .0) (h .1) e
 does p tickIn e h = tick-does p e
+does p (ticksIn n) e h = ticks-do p e n h

@@ -9,3 +9,6 @@ pub mod Doing
 pub mod Outcomes
 pub mod Always
 pub mod Events
+pub mod Joining
+pub mod Many
+pub mod Singly

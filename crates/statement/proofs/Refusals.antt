@@ -12,17 +12,17 @@ use lib.Dec.{ltb, eqb}
 use lib.ListN.{length}
 use borrow.Author.Tests.{ltb-true, ltb-false, lt-ltb, eqb-true, ne-eqb}
 use Rattle.base.proofs.Choices.{false-true}
-use Rattle.pump.specs.Calls.{tickCall, pinCall, byteReport, byteBuffer}
+use Rattle.pump.specs.Calls.{tickCall, ticksCall, pinCall, byteReport, byteBuffer}
 use Rattle.pump.specs.Holder.{isSoundPump}
-use Rattle.pump.specs.Reports.{refusalNumber, isPin, ofPin, ofByte}
+use Rattle.pump.specs.Reports.{refusalNumber, isPin, ofPin, ofByte, ofTicks}
 use Rattle.pump.specs.Reports as reports
 use Rattle.pump.specs.declared.holder.Pump.{Pump}
 use Rattle.pump.specs.declared.reports.Refusal.{Refusal}
-use Rattle.pump.specs.declared.reports.Refusal.the-variants.{ShortBuffer, NoPin, NoLevel, Unsound}
+use Rattle.pump.specs.declared.reports.Refusal.the-variants.{ShortBuffer, NoPin, NoLevel, Unsound, TooManyTicks}
 use Rattle.statement.specs.Facts.{Sound}
-use Rattle.statement.specs.Histories.{Call, byteIn, pinAt, tickIn, bufferBefore}
+use Rattle.statement.specs.Histories.{Call, byteIn, pinAt, tickIn, ticksIn, bufferBefore}
 use Rattle.statement.specs.Outcomes.{Outcome, outcomeOf, Pin, TurnedDown}
-use Rattle.statement.specs.Outcomes.{RefusedAs, not-sound, short-buffer, no-such-pin, no-such-level}
+use Rattle.statement.specs.Outcomes.{RefusedAs, not-sound, short-buffer, no-such-pin, no-such-level, too-many}
 use Rattle.statement.proofs.Soundness.{sound-facts, sound-test}
 
 -- ---- tests that fail
@@ -63,6 +63,7 @@ turned p x before =
       none-infused = refl;
       none-withdrawn = refl;
       no-beep = refl;
+      no-tick = refl;
       no-answer = refl;
       same-level = refl;
       same-buffer = refl;
@@ -70,10 +71,11 @@ turned p x before =
 
 module _ (p : Pump) where
   unsound-down : (call : Call) → isSoundPump p ≡ false → outcomeOf p call ≡ down p Unsound (bufferBefore call)
-  unfolding byteReport byteBuffer pinCall tickCall ofPin ofByte
+  unfolding byteReport byteBuffer pinCall tickCall ticksCall ofPin ofByte ofTicks
   unsound-down (byteIn b buffer) e = rw e refl
   unsound-down (pinAt pin level) e = rw e refl
   unsound-down tickIn e = rw e refl
+  unsound-down (ticksIn n) e = rw e refl
 
   short-down :
       (b : ℕ) (buffer : List ℕ)
@@ -91,6 +93,10 @@ module _ (p : Pump) where
   unfolding pinCall ofPin
   level-down pin level e k h = rw (e, k, lt-ltb 1 level h) refl
 
+  many-down : (n : ℕ) → isSoundPump p ≡ true → 1_000_000 < n → ticksCall p n ≡ reports.refused p TooManyTicks
+  unfolding ticksCall ofTicks
+  many-down n e h = rw (e, lt-ltb 1_000_000 n h) refl
+
 pub refused-down : (p : Pump) (call : Call) (k : ℕ) → RefusedAs p call k → TurnedDown p k (bufferBefore call) (outcomeOf p call)
 refused-down p call k (not-sound any n) =
     subst (TurnedDown p 4 (bufferBefore any)) (sym (unsound-down p any (unsound-test p n))) (turned p Unsound (bufferBefore any))
@@ -102,18 +108,23 @@ refused-down p call k (no-such-pin pin level s n) =
 refused-down p call k (no-such-level pin level s y h) =
     subst (λ r. TurnedDown p 3 [] (record { report = r; buffer = [] })) (sym (level-down p pin level (sound-test p s) (pin-test pin y) h))
     (turned p NoLevel [])
+refused-down p call k (too-many n s h) =
+    subst (λ r. TurnedDown p 5 [] (record { report = r; buffer = [] })) (sym (many-down p n (sound-test p s) (omega arith)))
+    (turned p TooManyTicks [])
 
 pub refused-some : (p : Pump) (call : Call) (k : ℕ) → RefusedAs p call k → k ≡ 0 → ⊥
 refused-some p call k (not-sound any n) e = omega arith
 refused-some p call k (short-buffer b buffer s h) e = omega arith
 refused-some p call k (no-such-pin pin level s n) e = omega arith
 refused-some p call k (no-such-level pin level s y h) e = omega arith
+refused-some p call k (too-many n s h) e = omega arith
 
 -- ---- the table refuses a call, or the state is sound and the arguments are in their ranges
 abbrev pub Fine : Call → Type 0
 Fine (byteIn b buffer) = 24 ≤ length buffer
 Fine (pinAt pin level) = Pin pin × (level ≤ 1)
 Fine tickIn = Unit {0}
+Fine (ticksIn n) = n ≤ 1_000_000
 
 pub data Verdict (p : Pump) (call : Call) : Type 0 where
   turns-down : (k : ℕ) → RefusedAs p call k → Verdict p call
@@ -132,6 +143,11 @@ verdict-sound p (pinAt pin level) e = go (isPin pin) refl (ltb 1 level) refl
     go true k true h = turns-down 3 (no-such-level pin level (sound-facts p e) (is-pin pin k) (ltb-true 1 level h))
     go true k false h = takes e (is-pin pin k, ltb-false 1 level h)
     go false k u h = turns-down 2 (no-such-pin pin level (sound-facts p e) (λ q. false-true (sym k ∙ pin-test pin q)))
+verdict-sound p (ticksIn n) e = go (ltb 1_000_000 n) refl
+  where
+    go : (t : Bool) → ltb 1_000_000 n ≡ t → Verdict p (ticksIn n)
+    go true h = turns-down 5 (too-many n (sound-facts p e) (ltb-true 1_000_000 n h))
+    go false h = takes e (ltb-false 1_000_000 n h)
 
 pub verdict : (p : Pump) (call : Call) → Verdict p call
 verdict p call = go (isSoundPump p) refl

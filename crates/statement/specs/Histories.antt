@@ -1,38 +1,42 @@
--- Histories of calls: what one call reports, the state after many, the events of a history, one for each call, and the states that a
--- history can reach.   (01, Calls)
-use Prim.Native.Nat.{ℕ, _≤_}
+-- Histories of calls: what one call reports, the state after many, the events of a history, one for each call or one for each tick, and the
+-- states that a history can reach.   (01, Calls; 02, 1/12)
+use Prim.Native.Nat.{ℕ, zero, suc, _≤_}
 use mathlib.Core.Path.{_≡_}
 use mathlib.Core.Bool.{true}
-use mathlib.Core.List.{List, [], _∷_}
+use mathlib.Core.List.{List, [], _∷_, _++_}
 use lib.ListN.{length}
-use Rattle.pump.specs.Calls.{tickCall, pinCall, byteReport, byteBuffer}
+use Rattle.pump.specs.Calls.{tickCall, ticksCall, pinCall, byteReport, byteBuffer}
 use Rattle.pump.specs.Holder.{phaseCount, isSoundPump}
 use Rattle.pump.specs.declared.holder.Pump.{Pump}
 use Rattle.pump.specs.declared.reports.Report.{Report}
 
--- the calls on a state: a byte with the buffer handed in for its answer, a pin with its level, a tick
+-- the calls on a state: a byte with the buffer handed in for its answer, a pin with its level, a tick, many ticks in one call
 pub data Call : Type 0 where
   byteIn : ℕ → List ℕ → Call
   pinAt : ℕ → ℕ → Call
   tickIn : Call
+  ticksIn : ℕ → Call
 
--- what a call hands back: the new state, the steps, the beeps, the length of the answer and the refusal
+-- what a call hands back: the new state, the steps, the beeps, the ticks done, the length of the answer and the refusal
 abbrev pub reportAfter : Pump → Call → Report
 reportAfter p (byteIn b buffer) = byteReport p b buffer
 reportAfter p (pinAt pin level) = pinCall p pin level
 reportAfter p tickIn = tickCall p
+reportAfter p (ticksIn n) = ticksCall p n
 
 -- the buffer handed in with a call; only a byte has one
 abbrev pub bufferBefore : Call → List ℕ
 bufferBefore (byteIn b buffer) = buffer
 bufferBefore (pinAt pin level) = []
 bufferBefore tickIn = []
+bufferBefore (ticksIn n) = []
 
 -- the buffer when the call is over
 abbrev pub bufferBehind : Pump → Call → List ℕ
 bufferBehind p (byteIn b buffer) = byteBuffer p b buffer
 bufferBehind p (pinAt pin level) = []
 bufferBehind p tickIn = []
+bufferBehind p (ticksIn n) = []
 
 -- the state after a list of calls, the first one first, each given the state that the last one handed back
 unfoldable pub after : Pump → List Call → Pump
@@ -53,6 +57,28 @@ eventOf p c = record { before = p; call = c; report = reportAfter p c; buffer = 
 unfoldable pub trace : Pump → List Call → List Event
 trace p [] = []
 trace p (c ∷ cs) = eventOf p c ∷ trace (reportAfter p c .pump) cs
+
+-- ---- tick by tick   (02, 1/12: "It must equal that many single ticks one after another")
+-- so many single ticks; shut, since a figure has more than a million of them
+unfoldable pub singleTicks : ℕ → List Call
+singleTicks zero = []
+singleTicks (suc n) = tickIn ∷ singleTicks n
+
+-- an event taken apart: a call of many ticks is the events of the single ticks that it did, from the state before it; one that was refused
+-- did none. Any other call is one event
+abbrev pub apartBy : Event → Call → List Event
+apartBy e (byteIn b buffer) = e ∷ []
+apartBy e (pinAt pin level) = e ∷ []
+apartBy e tickIn = e ∷ []
+apartBy e (ticksIn n) = trace (e .before) (singleTicks (e .report .ticks))
+
+abbrev pub apart : Event → List Event
+apart e = apartBy e (e .call)
+
+-- every event taken apart, one behind the other
+unfoldable pub tickByTick : List Event → List Event
+tickByTick [] = []
+tickByTick (e ∷ es) = apart e ++ tickByTick es
 
 -- what holds of every one in a list
 abbrev pub Every : {A : Type 0} → (A → Type 0) → List A → Type 0

@@ -2,3 +2,4 @@
 pub mod Facts
 pub mod Histories
 pub mod Outcomes
+pub mod Many

@@ -1,6 +1,6 @@
 -- The outcome of every call as a relation between the given state, the arguments, the given buffer and what comes back. The call meets
--- it, and no second outcome does (proofs/Outcomes.antt, call-meets and outcome-unique).   (01, Calls; Line and answer)
-use Prim.Native.Nat.{ℕ, _+_, _≤_, _<_}
+-- it, and no second outcome does (proofs/Outcomes.antt, call-meets and outcome-unique).   (01, Calls; Line and answer; 02, 1/12)
+use Prim.Native.Nat.{ℕ, suc, _+_, _≤_, _<_}
 use mathlib.Core.Path.{_≡_}
 use mathlib.Core.Logic.{_⊎_}
 use mathlib.Core.Bool.{Bool, true, false}
@@ -33,7 +33,7 @@ use Rattle.pump.specs.declared.device.Told.the-variants as told
 use Rattle.pump.specs.declared.holder.Pump.{Pump}
 use Rattle.pump.specs.declared.reports.Report.{Report}
 use Rattle.statement.specs.Facts.{Sound, coreOf, runOf}
-use Rattle.statement.specs.Histories.{Call, byteIn, pinAt, tickIn, reportAfter, bufferBefore, bufferBehind, Event}
+use Rattle.statement.specs.Histories.{Call, byteIn, pinAt, tickIn, ticksIn, reportAfter, bufferBefore, bufferBehind, Event}
 
 -- what a call hands back, and the buffer when it is over
 pub record Outcome : Type 0 where
@@ -48,7 +48,7 @@ outcomeOf p call = record { report = reportAfter p call; buffer = bufferBehind p
 abbrev pub numberOf : Outcome → ℕ
 numberOf o = refusalNumber (o .report .refusal)
 
--- ---- the table of refusals by their numbers, each where those before it are not given: 4 and then 1; 4, then 2, then 3
+-- ---- the table of refusals by their numbers, each where those before it are not given: 4 and then 1; 4, then 2, then 3; 4 and then 5
 abbrev pub Pin : ℕ → Type 0
 Pin n = (n ≡ 2) ⊎ (n ≡ 4) ⊎ (n ≡ 6)
 
@@ -56,15 +56,17 @@ pub data RefusedAs (p : Pump) : Call → ℕ → Type 0 where
   short-buffer : (b : ℕ) (buffer : List ℕ) → Sound p → length buffer < 24 → RefusedAs p (byteIn b buffer) 1
   no-such-pin : (pin level : ℕ) → Sound p → (Pin pin → ⊥) → RefusedAs p (pinAt pin level) 2
   no-such-level : (pin level : ℕ) → Sound p → Pin pin → 1 < level → RefusedAs p (pinAt pin level) 3
+  too-many : (n : ℕ) → Sound p → 1_000_000 < n → RefusedAs p (ticksIn n) 5
   not-sound : (call : Call) → (Sound p → ⊥) → RefusedAs p call 4
 
--- a refusal returns the given state, reports no step and no beep, and writes nothing
+-- a refusal returns the given state, reports no step, no beep and no tick, and writes nothing
 pub record TurnedDown (p : Pump) (k : ℕ) (before : List ℕ) (o : Outcome) : Type 0 where
   pub number : numberOf o ≡ k
   pub same-state : o .report .pump ≡ p
   pub none-infused : o .report .infused ≡ 0
   pub none-withdrawn : o .report .withdrawn ≡ 0
   pub no-beep : o .report .beeps ≡ 0
+  pub no-tick : o .report .ticks ≡ 0
   pub no-answer : o .report .length ≡ 0
   pub same-level : o .report .output ≡ coreOf p .output
   pub same-buffer : o .buffer ≡ before
@@ -76,6 +78,7 @@ pub record Still (q : Pump) (o : Outcome) : Type 0 where
   pub none-infused : o .report .infused ≡ 0
   pub none-withdrawn : o .report .withdrawn ≡ 0
   pub no-beep : o .report .beeps ≡ 0
+  pub no-tick : o .report .ticks ≡ 0
   pub level : o .report .output ≡ coreOf q .output
 
 -- nothing is written
@@ -108,8 +111,27 @@ pub record TickDone (p : Pump) (o : Outcome) : Type 0 where
   pub withdrawn : o .report .withdrawn ≡ tickAt p .withdrawn
   pub one-beep : tickAt p .beep ≡ true → o .report .beeps ≡ 1
   pub no-beep : tickAt p .beep ≡ false → o .report .beeps ≡ 0
+  pub one-tick : o .report .ticks ≡ 1
   pub level : o .report .output ≡ tickAt p .core .output
   pub silent : Silent (bufferBefore tickIn) o
+
+-- ---- many ticks: so many single ticks, none of them refused, each from the state that the last one left; and the sums of the steps
+-- infused, the steps withdrawn and the beeps   (02, 1/12)
+pub data InTurn : ℕ → Pump → Pump → ℕ → ℕ → ℕ → Type 0 where
+  none : (p : Pump) → InTurn 0 p p 0 0 0
+  more :
+      (n : ℕ) (p q : Pump) (infused withdrawn beeps : ℕ) (o : Outcome)
+      → InTurn n p q infused withdrawn beeps
+      → ((k : ℕ) → RefusedAs q tickIn k → ⊥)
+      → TickDone q o
+      → InTurn (suc n) p (o .report .pump) (infused + o .report .infused) (withdrawn + o .report .withdrawn) (beeps + o .report .beeps)
+
+pub record TicksDone (p : Pump) (n : ℕ) (o : Outcome) : Type 0 where
+  pub taken : numberOf o ≡ 0
+  pub in-turn : InTurn n p (o .report .pump) (o .report .infused) (o .report .withdrawn) (o .report .beeps)
+  pub done : o .report .ticks ≡ n
+  pub level : o .report .output ≡ coreOf (o .report .pump) .output
+  pub silent : Silent (bufferBefore (ticksIn n)) o
 
 -- ---- a pin: its level, 0 or 1, and what its edge does
 pub data Level : ℕ → Bool → Type 0 where
@@ -182,6 +204,7 @@ abbrev pub Does : Pump → Call → Outcome → Type 0
 Does p (byteIn b buffer) o = ByteHeard p b buffer o
 Does p (pinAt pin level) o = Levelled p pin level o
 Does p tickIn o = TickDone p o
+Does p (ticksIn n) o = TicksDone p n o
 
 pub data Meets (p : Pump) (call : Call) (o : Outcome) : Type 0 where
   turned-down : (k : ℕ) → RefusedAs p call k → TurnedDown p k (bufferBefore call) o → Meets p call o

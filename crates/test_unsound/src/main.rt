@@ -3,9 +3,9 @@
 // (statement, sound-iff), and so is what a refusal leaves alone; nothing that calls can do from power-up makes a state that is not sound,
 // so that only a program like this shows one.
 //
-// A line has the refusals of six calls: a tick; pin 2 at level 0; byte 13; pin 9 at level 7; pin 2 at level 7; byte 13 with a buffer of 23
-// bytes; then whether a thousand ticks at once were taken. A sound state is refused for what the last three hand in, `0 0 0 2 3 1 +`;
-// any other for itself, `4 4 4 4 4 4 -`.
+// A line has the refusals of eight calls: a tick; pin 2 at level 0; byte 13; pin 9 at level 7; pin 2 at level 7; byte 13 with a buffer of
+// 23 bytes; a thousand ticks at once; 1,000,001 ticks at once, one more than a call takes (document 02, 1/12). A sound state is refused
+// only for what the calls hand in, `0 0 0 2 3 1 0 5`; any other for itself, before anything that is handed in, `4 4 4 4 4 4 4 4`.
 //
 //   states   the sound states that the cases start from, and one part of a state replaced
 //   show     a case's line

@@ -1,7 +1,5 @@
-// A case's line: its name, the refusals of its six calls, and whether many ticks at once were taken.
+// A case's line: its name, and the refusals of its eight calls.
 use libc::STDOUT_FILENO;
-use many::Ticked;
-use many::ticks;
 use pump::Pump;
 use pump::Report;
 
@@ -23,7 +21,8 @@ pub fn show(name: &[u8], pump: Pump) {
     edge(pump, 9, 7);
     edge(pump, 2, 7);
     heard(pump, &mut short);
-    taken(ticks(pump, 1_000));
+    shown(pump.ticks(1_000));
+    shown(pump.ticks(1_000_001));
     put(b"\n");
 }
 
@@ -34,14 +33,6 @@ fn edge(pump: Pump, pin: u8, level: u8) {
 // A return, with a buffer for its answer.
 fn heard(pump: Pump, out: &mut [u8]) {
     shown(pump.byte(13, out));
-}
-
-fn taken(ticked: Ticked) {
-    if ticked.sound {
-        put(b" +");
-        return;
-    }
-    put(b" -");
 }
 
 fn shown(report: Report) {

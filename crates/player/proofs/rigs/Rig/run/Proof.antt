@@ -10,7 +10,7 @@ returns c =
     let line-at = c .before .before .before in
     let ticks-at = line-at .before .before in
     let start = ticks-at .before .before in
-    run-acted (start .args .self) _ _ _ (ticks-at .ticks .ensures) (line-at .ticks-line .ensures) (c .new .ensures)
+    run-acted (start .args .self) _ _ _ (ticks-at .elapse .ensures) (line-at .ticks-line .ensures) (c .new .ensures)
 
 pub run-spec : {M : Type 1} → statement M
 run-spec = tie.close (tie.spec (λ c κs. tt) (λ c κs. search needs) (λ c κs. tt) (λ c. search needs) returns)

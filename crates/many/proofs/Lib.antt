@@ -1,2 +1,0 @@
--- What the run of many ticks knows.
-pub mod Running

@@ -1,2 +1,0 @@
--- Many ticks at a time.
-pub mod Ticking

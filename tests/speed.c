@@ -1,5 +1,5 @@
-// Times a tick of the proved engine against one of the plain engine, in turns, table by table. The least of many rounds counts:
-// whatever else the machine does can only lengthen one.
+// Times the proved engine against the plain one, in turns, table by table: calls of a tick, and calls of many ticks. The least of many
+// rounds counts: whatever else the machine does can only lengthen one. Each line that misses what is held against it is marked.
 #define _POSIX_C_SOURCE 199309L
 #include <inttypes.h>
 #include <stdint.h>
@@ -7,12 +7,25 @@
 #include <time.h>
 
 uint64_t proved_ticks(uint32_t ticks, uint32_t table);
+uint64_t proved_calls(uint32_t calls, uint32_t ticks, uint32_t table);
 uint64_t twin_ticks(uint32_t ticks, uint32_t table);
+uint64_t twin_calls(uint32_t calls, uint32_t ticks, uint32_t table);
 
-enum { ENGINES = 2, TABLES = 5, ROUNDS = 25, TICKS = 10000, COMPARED = 200000 };
+enum { MILLION = 1000000, WAKE = 20, TABLES = 11, SINGLES = 5, ROUNDS = 25 };
 
-static uint64_t (*const engine[ENGINES])(uint32_t, uint32_t) = {proved_ticks, twin_ticks};
-static const char *const table_name[TABLES] = {"continuous", "large numbers", "pause", "all functions", "short visits"};
+// How many calls of a million are timed at once, so that the clock has something to measure, and how many times faster than the plain
+// loop a call must be (0: no more is asked than the same steps).
+static const struct table {
+    const char *name;
+    uint32_t calls;
+    double least;
+} tables[TABLES] = {
+    {"steady RAT", 1000, 50000},       {"large numbers", 4, 0},      {"PAS 99", 1000, 25000}, {"all functions", 1000, 0},
+    {"visits of 18 ticks", 1, 4},      {"large volume", 60, 50000},  {"stopped", 1000, 50000}, {"U", 1000, 50000},
+    {"visits of 1,800 ticks", 20, 4},  {"short ramp", 1, 4},         {"jumps", 1, 2},
+};
+
+static int missed;
 
 static double nanoseconds(void) {
     struct timespec t;
@@ -20,42 +33,85 @@ static double nanoseconds(void) {
     return 1e9 * (double)t.tv_sec + (double)t.tv_nsec;
 }
 
-static double per_tick(int e, uint32_t table) {
+typedef uint64_t Calls(uint32_t calls, uint32_t ticks, uint32_t table);
+
+// A call of one tick, as the calls of many are timed.
+static uint64_t proved_singles(uint32_t calls, uint32_t ticks, uint32_t table) {
+    (void)ticks;
+    return proved_ticks(calls, table);
+}
+
+static uint64_t twin_singles(uint32_t calls, uint32_t ticks, uint32_t table) {
+    (void)ticks;
+    return twin_ticks(calls, table);
+}
+
+// What a call takes; what no call takes, making the table, is taken off.
+static double per_call(Calls *run, uint32_t calls, uint32_t ticks, uint32_t table) {
     double begun = nanoseconds();
-    engine[e](TICKS, table);
-    return (nanoseconds() - begun) / TICKS;
+    run(0, ticks, table);
+    double started = nanoseconds();
+    run(calls, ticks, table);
+    return (nanoseconds() - started - (started - begun)) / calls;
+}
+
+// The least of the rounds for two engines, in turns.
+static void least(double best[2], Calls *one, uint32_t one_calls, Calls *other, uint32_t other_calls, uint32_t ticks[2], uint32_t table) {
+    for (int round = 0; round < ROUNDS; round++) {
+        double took[2] = {per_call(one, one_calls, ticks[0], table), per_call(other, other_calls, ticks[1], table)};
+        for (int e = 0; e < 2; e++)
+            if (round == 0 || took[e] < best[e])
+                best[e] = took[e];
+    }
+}
+
+static void told(const char *name, const double best[2], double ratio, int fine) {
+    printf("%-22s %12.0f %12.0f %10.2f%s\n", name, best[0], best[1], ratio, fine ? "" : "  missed");
+    missed |= !fine;
 }
 
 // Both must do the same work for their times to be compared.
 static int agree(void) {
-    for (uint32_t t = 0; t < TABLES; t++) {
-        uint64_t ours = proved_ticks(COMPARED, t), theirs = twin_ticks(COMPARED, t);
-        if (ours != theirs) {
-            printf("%s: %" PRIu64 " steps, and the plain engine gives %" PRIu64 "\n", table_name[t], ours, theirs);
-            return 0;
+    static const uint32_t sizes[] = {0, 1, 2, 7, 17, 18, 19, 20, 999, 1000, 1001, 2000, 2001, 10007, 100003, MILLION};
+    for (uint32_t t = 0; t < TABLES; t++)
+        for (unsigned k = 0; k < sizeof sizes / sizeof *sizes; k++) {
+            uint32_t calls = sizes[k] < 10000 ? 100 : 2;
+            uint64_t ours = proved_calls(calls, sizes[k], t), theirs = twin_calls(calls, sizes[k], t);
+            if (ours != theirs) {
+                printf("%s, calls of %" PRIu32 ": %" PRIu64 " steps, and the plain engine gives %" PRIu64 "\n", tables[t].name, sizes[k],
+                       ours, theirs);
+                return 0;
+            }
         }
-    }
     return 1;
 }
 
 int main(void) {
     if (!agree())
         return 2;
-    double least[ENGINES][TABLES];
-    for (int round = 0; round < ROUNDS; round++)
-        for (uint32_t t = 0; t < TABLES; t++)
-            for (int e = 0; e < ENGINES; e++) {
-                double took = per_tick(e, t);
-                if (round == 0 || took < least[e][t])
-                    least[e][t] = took;
-            }
-    int slower = 0;
-    puts("a call of tick; each tests the state first");
-    printf("%-14s %8s %8s %6s\n", "ns a tick", "proved", "plain", "ratio");
-    for (int t = 0; t < TABLES; t++) {
-        double ratio = least[0][t] / least[1][t];
-        printf("%-14s %8.1f %8.1f %6.2f\n", table_name[t], least[0][t], least[1][t], ratio);
-        slower |= ratio > 1.0;
+    double best[2];
+    puts("a call of tick; each tests the state first; proved to plain");
+    printf("%-22s %12s %12s %10s\n", "ns a call", "proved", "plain", "ratio");
+    for (uint32_t t = 0; t < SINGLES; t++) {
+        least(best, proved_singles, 10000, twin_singles, 10000, (uint32_t[2]){1, 1}, t);
+        told(tables[t].name, best, best[0] / best[1], best[0] <= best[1]);
     }
-    return slower;
+    puts("\na call of ticks(1,000,000), and a plain loop of as many after one test; how many times faster");
+    printf("%-22s %12s %12s %10s\n", "ns a call", "proved", "plain", "times");
+    for (uint32_t t = 0; t < TABLES; t++) {
+        least(best, proved_calls, tables[t].calls, twin_calls, 1, (uint32_t[2]){MILLION, MILLION}, t);
+        told(tables[t].name, best, best[1] / best[0], best[1] >= tables[t].least * best[0]);
+    }
+    puts("\na call of ticks(20), and a plain loop of twenty after one test; how many times faster");
+    for (uint32_t t = 0; t < TABLES; t++) {
+        least(best, proved_calls, 10000, twin_calls, 10000, (uint32_t[2]){WAKE, WAKE}, t);
+        told(tables[t].name, best, best[1] / best[0], best[1] >= 1.5 * best[0]);
+    }
+    puts("\na call of ticks(1), and one of tick, both proved; how many times faster");
+    printf("%-22s %12s %12s %10s\n", "ns a call", "ticks(1)", "tick", "times");
+    for (uint32_t t = 0; t < TABLES; t++) {
+        least(best, proved_calls, 10000, proved_singles, 10000, (uint32_t[2]){1, 1}, t);
+        told(tables[t].name, best, best[1] / best[0], best[0] <= 1.02 * best[1]);
+    }
+    return missed;
 }

@@ -1,7 +1,8 @@
 //! The engine of a syringe pump drive board, written plainly from the rules (document 01).
 //!
 //! The crate knows the board's line, its program of phases, its pins, ticks, steps and totals.
-//! It knows nothing of a host, of files or of time: a caller gives bytes, pin levels and ticks.
+//! The engine knows nothing of a host, of files or of time: a caller gives bytes, pin levels and ticks. Only `player`,
+//! which its programs share, reads and writes.
 //! Each call first tests the whole state, because a caller may hand in a state of its own making.
 
 mod answers;
@@ -13,6 +14,7 @@ mod functions;
 mod line;
 mod loops;
 mod numbers;
+mod player;
 mod program;
 mod report;
 mod script;
@@ -28,7 +30,9 @@ pub use functions::Function;
 pub use line::{Line, LINE_LENGTH};
 pub use loops::{Loop, Loops, LOOPS_MAX};
 pub use numbers::{print_number, read_number, writable, NUMBER_MAX};
+pub use player::{play, Player};
 pub use program::{Direction, Phase, Program, PHASES};
 pub use report::Report;
-pub use script::{read_item, Item};
+pub use script::{read_item, read_service_item, Item};
 pub use state::{Alarm, Mode, Pins, Pump, Visit};
+pub use ticks::TICKS_A_CALL_MAX;

@@ -4,8 +4,11 @@ use crate::drive::{step_target, step_volume, threshold, CurrentRate, TOTAL_MAX};
 use crate::functions::Function;
 use crate::numbers::NUMBER_MAX;
 use crate::program::{Direction, Phase};
-use crate::report::{Report, UNSOUND};
+use crate::report::{Report, TOO_MANY_TICKS, UNSOUND};
 use crate::state::{Pump, Visit};
+
+/// One call does no more ticks than these: a bit more than a quarter of an hour.
+pub const TICKS_A_CALL_MAX: u32 = 1_000_000;
 
 impl Pump {
     pub fn tick(&mut self) -> Report {
@@ -15,10 +18,29 @@ impl Pump {
         self.tick_untested()
     }
 
-    /// A tick of a state that the caller knows to be sound; it is sound afterwards too.
+    /// So many single ticks one after another. One test of the state serves for all: a tick keeps a sound state sound.
+    pub fn ticks(&mut self, n: u32) -> Report {
+        if !self.is_sound() {
+            return self.refused(UNSOUND);
+        }
+        if n > TICKS_A_CALL_MAX {
+            return self.refused(TOO_MANY_TICKS);
+        }
+        let mut sum = Report { ticks: n, ..self.quiet() };
+        for _ in 0..n {
+            let report = self.tick_untested();
+            sum.infused += report.infused;
+            sum.withdrawn += report.withdrawn;
+            sum.beeps += report.beeps;
+        }
+        sum.output = self.output;
+        sum
+    }
+
+    /// A tick of a state that is known to be sound; it is sound afterwards too.
     #[inline]
-    pub fn tick_untested(&mut self) -> Report {
-        let mut report = self.quiet();
+    fn tick_untested(&mut self) -> Report {
+        let mut report = Report { ticks: 1, ..self.quiet() };
         if self.operating() && !self.trigger_wait {
             if let Some(visit) = self.visit {
                 self.work_visit(visit, &mut report);

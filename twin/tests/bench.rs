@@ -1,19 +1,14 @@
 //! The bench program as a filter.
 
-use std::io::{BufRead, BufReader, Read, Write};
-use std::process::{Child, Command, Stdio};
+#[path = "common/filter.rs"]
+mod filter;
 
-fn bench() -> Child {
-    Command::new(env!("CARGO_BIN_EXE_bench")).stdin(Stdio::piped()).stdout(Stdio::piped()).spawn().unwrap()
-}
+use filter::converses;
+
+const BENCH: &str = env!("CARGO_BIN_EXE_bench");
 
 fn run(script: &[u8]) -> String {
-    let mut child = bench();
-    child.stdin.take().unwrap().write_all(script).unwrap();
-    let mut output = String::new();
-    child.stdout.take().unwrap().read_to_string(&mut output).unwrap();
-    assert!(child.wait().unwrap().success());
-    output
+    filter::run(BENCH, script)
 }
 
 #[test]
@@ -72,18 +67,7 @@ fn long_lines_and_raw_bytes() {
     assert_eq!(run(&script), "00A?R\n00S?\n00S?\n00S01\n");
 }
 
-/// What it has to say is out before it waits for more.
 #[test]
 fn answers_before_the_next_line_is_given() {
-    let mut child = bench();
-    let mut input = child.stdin.take().unwrap();
-    let mut output = BufReader::new(child.stdout.take().unwrap());
-    for (line, answer) in [(">\n", "00A?R\n"), (">PHN\n", "00S01\n"), ("T 5\n", "T 5 I 0 W 0\n")] {
-        input.write_all(line.as_bytes()).unwrap();
-        let mut said = String::new();
-        output.read_line(&mut said).unwrap();
-        assert_eq!(said, answer);
-    }
-    drop(input);
-    child.wait().unwrap();
+    converses(BENCH, &[(">\n", "00A?R\n"), (">PHN\n", "00S01\n"), ("T 5\n", "T 5 I 0 W 0\n")]);
 }

@@ -2,37 +2,58 @@
 
 use std::process::Command;
 
-use twin::{read_item, Item, Pump, ANSWER_ROOM};
+use twin::{read_item, read_service_item, Item, Pump, ANSWER_ROOM};
 
-fn script(seed: u32, lines: u32) -> Vec<u8> {
-    let generator = env!("CARGO_BIN_EXE_scripts");
-    let output = Command::new(generator).args([seed.to_string(), lines.to_string()]).output().unwrap();
+fn script(seed: u32, lines: u32, service: bool) -> Vec<u8> {
+    let mut generator = Command::new(env!("CARGO_BIN_EXE_scripts"));
+    generator.args([seed.to_string(), lines.to_string()]);
+    if service {
+        generator.arg("service");
+    }
+    let output = generator.output().unwrap();
     assert!(output.status.success());
     output.stdout
 }
 
 #[test]
 fn same_seed_same_script() {
-    assert_eq!(script(5, 120), script(5, 120));
-    assert_ne!(script(5, 120), script(6, 120));
+    for service in [false, true] {
+        assert_eq!(script(5, 120, service), script(5, 120, service));
+        assert_ne!(script(5, 120, service), script(6, 120, service));
+    }
+    assert_ne!(script(5, 120, false), script(5, 120, true));
 }
 
 #[test]
 fn no_call_leaves_an_unsound_state() {
     for seed in 1000..1020 {
         let mut pump = Pump::new();
-        for line in script(seed, 150).split(|&b| b == b'\n') {
-            match read_item(line) {
-                Item::Text(text) => text.iter().for_each(|&byte| {
-                    pump.byte(byte, &mut [0; ANSWER_ROOM]);
-                    assert!(pump.is_sound());
-                }),
-                Item::Edge(pin, level) => assert_ne!(pump.pin(pin, level).refusal, 4),
-                Item::Ticks(ticks) => (0..ticks).for_each(|_| assert_eq!(pump.tick().refusal, 0)),
-                Item::Bad => {}
-            }
-            pump.byte(13, &mut [0; ANSWER_ROOM]);
-            assert!(pump.is_sound());
+        for line in script(seed, 150, false).split(|&b| b == b'\n') {
+            sound_after(&mut pump, read_item(line));
+            send(&mut pump, b"\r");
         }
+        let mut pump = Pump::new();
+        for line in script(seed, 150, true).split(|&b| b == b'\n') {
+            sound_after(&mut pump, read_service_item(line));
+        }
+    }
+}
+
+fn sound_after(pump: &mut Pump, item: Item) {
+    match item {
+        Item::Text(text) => send(pump, text),
+        Item::Bytes(bytes) => send(pump, &bytes),
+        Item::Edge(pin, level) => assert_ne!(pump.pin(pin, level).refusal, 4),
+        // Long ones are played only so far, because each tick tests the whole state.
+        Item::Ticks(ticks) => (0..ticks.min(30_000)).for_each(|_| assert_eq!(pump.tick().refusal, 0)),
+        Item::Bad => {}
+    }
+    assert!(pump.is_sound());
+}
+
+fn send(pump: &mut Pump, bytes: &[u8]) {
+    for &byte in bytes {
+        pump.byte(byte, &mut [0; ANSWER_ROOM]);
+        assert!(pump.is_sound());
     }
 }

@@ -3,7 +3,7 @@
 mod common;
 
 use common::{awake, continuous, looping, pausing, visiting, waiting};
-use twin::{step_volume, threshold, Alarm, CurrentRate, Function, Loop, Mode, Pump, RateUnit, Visit};
+use twin::{step_volume, threshold, Alarm, CurrentRate, Function, Loop, Mode, Pump, RateUnit, Report, Visit};
 use twin::{NUMBER_MAX, TOTAL_MAX};
 
 /// Spoils a sound state; every call must then refuse with 4, change nothing and write nothing.
@@ -13,10 +13,10 @@ fn unsound(mut pump: Pump, spoil: impl FnOnce(&mut Pump)) {
     assert!(!pump.is_sound());
     let kept = pump.clone();
     let mut out = [7; 30];
-    for report in [pump.byte(13, &mut out), pump.byte(13, &mut []), pump.pin(9, 9), pump.pin(2, 0), pump.tick()] {
-        assert_eq!(report.refusal, 4);
-        assert_eq!((report.infused, report.withdrawn, report.beeps, report.answer), (0, 0, 0, 0));
-        assert_eq!(report.output, kept.output);
+    let bytes = [pump.byte(13, &mut out), pump.byte(13, &mut [])];
+    let others = [pump.pin(9, 9), pump.pin(2, 0), pump.tick(), pump.ticks(3), pump.ticks(1_000_001)];
+    for report in bytes.into_iter().chain(others) {
+        assert_eq!(report, Report { refusal: 4, output: kept.output, ..Report::default() });
     }
     assert_eq!(pump, kept);
     assert_eq!(out, [7; 30]);

@@ -1,4 +1,4 @@
-//! Ticks of the plain engine against the clock, from the same five tables as the Rattle crate that tests/speed names.
+//! Ticks of the plain engine against the clock, from the same tables as the Rattle crate that tests/speed names.
 
 use twin::{Direction, Function, Mode, Phase, Pump, RateUnit};
 
@@ -13,9 +13,21 @@ pub extern "C" fn twin_ticks(ticks: u32, table: u32) -> u64 {
     steps
 }
 
+/// The steps infused by that many calls of so many ticks each; a call tests the state once.
+#[no_mangle]
+pub extern "C" fn twin_calls(calls: u32, ticks: u32, table: u32) -> u64 {
+    let mut pump = running(table);
+    let mut steps = 0;
+    for _ in 0..calls {
+        steps += u64::from(pump.ticks(ticks).infused);
+    }
+    steps
+}
+
 /// A pump just started on a table.
 fn running(table: u32) -> Pump {
     let mut pump = Pump::new();
+    pump.diameter = if matches!(table, 5 | 8 | 9) { 26_590 } else { 10_000 };
     for (n, phase) in (1..).zip(&mut pump.program.phases) {
         *phase = phase_of(table, n);
     }
@@ -30,7 +42,13 @@ fn phase_of(table: u32, n: u8) -> Phase {
         1 => large(n),
         2 => pausing(n),
         3 => mixed(n),
-        _ => visits(n),
+        4 => visits(n),
+        5 => first(n, rated(Function::Rate, 500_000, 9_999_000)),
+        6 => bare(Function::Stop),
+        7 => first(n, bare(Function::Pause(0))),
+        8 => ramp(n, 100),
+        9 => ramp(n, 1),
+        _ => first(n, bare(Function::Jump(1))),
     }
 }
 
@@ -86,6 +104,24 @@ fn visits(n: u8) -> Phase {
         2 => rated(Function::Rate, 200_000, 1_000),
         3 => bare(Function::Loop(99)),
         4 => bare(Function::Jump(1)),
+        _ => bare(Function::Stop),
+    }
+}
+
+fn first(n: u8, phase: Phase) -> Phase {
+    match n {
+        1 => phase,
+        _ => bare(Function::Stop),
+    }
+}
+
+fn ramp(n: u8, volume: u32) -> Phase {
+    match n {
+        1 => rated(Function::Rate, 200_000, volume),
+        2 => bare(Function::LoopStart),
+        3 => rated(Function::Increment, 1_000, volume),
+        4 => bare(Function::Loop(50)),
+        5 => bare(Function::Jump(1)),
         _ => bare(Function::Stop),
     }
 }

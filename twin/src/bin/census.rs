@@ -1,15 +1,20 @@
-//! `census SCRIPT...` runs scripts and counts what happened in them, to see that they reach what they should.
+//! `census [service] SCRIPT...` runs scripts and counts what happened in them, to see that they reach what they should.
 
 use std::collections::BTreeMap;
 use std::io;
 
-use twin::{read_item, Alarm, Function, Item, Mode, Pump, Report, ANSWER_ROOM};
+use twin::{read_item, read_service_item, Alarm, Function, Item, Mode, Pump, Report, ANSWER_ROOM, TICKS_A_CALL_MAX};
 
 const RETURN: u8 = 13;
 
 fn main() -> io::Result<()> {
     let mut counts = Counts::default();
-    for name in std::env::args().skip(1) {
+    let mut names: Vec<String> = std::env::args().skip(1).collect();
+    let service = names.first().is_some_and(|name| name == "service");
+    if service {
+        names.remove(0);
+    }
+    for name in names {
         let script = std::fs::read(name)?;
         let mut pump = Pump::new();
         let ended = script.ends_with(b"\n");
@@ -20,7 +25,7 @@ fn main() -> io::Result<()> {
         let last = lines.len().saturating_sub(1);
         for (n, line) in lines.into_iter().enumerate() {
             let line = if n < last || ended { line.strip_suffix(&[RETURN]).unwrap_or(line) } else { line };
-            counts.line(&mut pump, line);
+            counts.item(&mut pump, if service { read_service_item(line) } else { read_item(line) });
         }
         counts.add("scripts");
     }
@@ -47,20 +52,24 @@ impl Counts {
         }
     }
 
-    fn line(&mut self, pump: &mut Pump, line: &[u8]) {
+    fn item(&mut self, pump: &mut Pump, item: Item) {
         self.add("lines");
-        match read_item(line) {
-            Item::Text(text) => self.text(pump, text),
+        match item {
+            Item::Text(text) => self.bytes(pump, text.iter().chain(&[RETURN])),
+            Item::Bytes(bytes) => {
+                self.add("B lines");
+                self.bytes(pump, bytes.iter())
+            }
             Item::Edge(pin, level) => self.edge(pump, pin, level),
             Item::Ticks(ticks) => self.ticks(pump, ticks),
-            Item::Bad => self.add("bench: bad lines"),
+            Item::Bad => self.add("bad lines"),
         }
     }
 
-    fn text(&mut self, pump: &mut Pump, text: &[u8]) {
+    fn bytes<'a>(&mut self, pump: &mut Pump, bytes: impl Iterator<Item = &'a u8>) {
         let mut out = [0; ANSWER_ROOM];
         let mut answered = false;
-        for &byte in text.iter().chain(&[RETURN]) {
+        for &byte in bytes {
             let report = pump.byte(byte, &mut out);
             if report.answer > 0 {
                 answered = true;
@@ -89,7 +98,7 @@ impl Counts {
     fn edge(&mut self, pump: &mut Pump, pin: u8, level: u8) {
         let (trap, under_way) = (pump.trap, pump.visit.is_some() || pump.pause.is_some() || pump.trigger_wait);
         if pump.pin(pin, level).refusal != 0 {
-            return self.add("bench: refused edges");
+            return self.add("refused edges");
         }
         if trap.is_some() && pump.trap.is_none() {
             self.add("traps fired by an edge");
@@ -100,14 +109,19 @@ impl Counts {
     }
 
     fn ticks(&mut self, pump: &mut Pump, ticks: u32) {
-        let mut steps = 0;
+        let (mut steps, mut beeps, output) = (0, 0, pump.output);
         for _ in 0..ticks {
             let report = self.tick(pump);
             steps += u64::from(report.infused + report.withdrawn);
-            self.add_many("beeps", u64::from(report.beeps));
+            beeps += u64::from(report.beeps);
         }
         self.add_many("ticks", u64::from(ticks));
         self.add_many("steps", steps);
+        self.add_many("beeps", beeps);
+        self.add_many("T lines with several beeps", u64::from(beeps > 1));
+        self.add_many("T lines that turn the output", u64::from(pump.output != output));
+        self.add_many("T lines of no tick", u64::from(ticks == 0));
+        self.add_many("T lines of several calls", u64::from(ticks > TICKS_A_CALL_MAX));
         self.add(if steps > 0 { "T lines with steps" } else { "T lines without steps" });
     }
 

@@ -1,15 +1,22 @@
 //! The composer of a script: writes lines, and follows them with a pump of its own.
 
-use twin::{read_item, Item, Mode, Pump, ANSWER_ROOM};
+use twin::{read_item, read_service_item, Item, Mode, Pump, ANSWER_ROOM, TICKS_A_CALL_MAX};
 
 use crate::dress;
 use crate::random::Random;
 
-const RETURN: u8 = 13;
+pub const RETURN: u8 = 13;
+
+/// The ticks that the long `T` of a service script may have in all, so that it stays quick to play.
+const MANY_TICKS_MAX: u64 = 2_000_000;
 
 pub struct Composer {
     pub random: Random,
     pub pump: Pump,
+    /// Whether the script is for the service program.
+    pub service: bool,
+    /// What is left for the long `T`.
+    pub many_ticks: u64,
     /// The phases of the program entered last: its first, and the one past its end.
     pub first: u8,
     pub past: u8,
@@ -21,10 +28,12 @@ pub struct Composer {
 }
 
 impl Composer {
-    pub fn new(seed: u64, wanted: usize) -> Composer {
+    pub fn new(seed: u64, wanted: usize, service: bool) -> Composer {
         Composer {
             random: Random::new(seed),
             pump: Pump::new(),
+            service,
+            many_ticks: MANY_TICKS_MAX,
             first: 1,
             past: 2,
             gathering: false,
@@ -76,6 +85,9 @@ impl Composer {
     }
 
     pub fn text(&mut self, text: Vec<u8>) {
+        if self.service && self.random.percent(30) {
+            return self.send_bytes(text);
+        }
         let mut line = vec![b'>'];
         line.extend_from_slice(&text);
         // Two commands in one text now and then: the return inside it ends the first.
@@ -111,22 +123,28 @@ impl Composer {
     }
 
     fn follow(&mut self, line: &[u8]) {
-        match read_item(line) {
-            Item::Text(text) => {
-                let mut answer = [0; ANSWER_ROOM];
-                for &byte in text.iter().chain(&[RETURN]) {
-                    self.pump.byte(byte, &mut answer);
-                }
-            }
+        match if self.service { read_service_item(line) } else { read_item(line) } {
+            Item::Text(text) => self.follow_bytes(text.iter().chain(&[RETURN])),
+            Item::Bytes(bytes) => self.follow_bytes(bytes.iter()),
             Item::Edge(pin, level) => {
                 self.pump.pin(pin, level);
             }
             Item::Ticks(ticks) => {
-                for _ in 0..ticks {
-                    self.pump.tick();
+                let mut left = ticks;
+                while left > 0 {
+                    let report = self.pump.ticks(left.min(TICKS_A_CALL_MAX));
+                    assert_eq!(report.refusal, 0);
+                    left -= report.ticks;
                 }
             }
             Item::Bad => {}
+        }
+    }
+
+    fn follow_bytes<'a>(&mut self, bytes: impl Iterator<Item = &'a u8>) {
+        let mut answer = [0; ANSWER_ROOM];
+        for &byte in bytes {
+            self.pump.byte(byte, &mut answer);
         }
     }
 

@@ -47,7 +47,8 @@ pub fn volume(random: &mut Random, diameter: u32, rate: CurrentRate) -> u32 {
         3 => random.between(60, 900),
         _ => random.between(900, 4_000),
     };
-    let steps = (rate.hourly() * ticks / threshold(diameter)).max(1);
+    // The fastest rates of the widest syringes pass 64 bits in some 2,600 ticks.
+    let steps = (u128::from(rate.hourly()) * u128::from(ticks) / u128::from(threshold(diameter))).max(1) as u64;
     let thousandth = volume_unit(diameter).thousandth();
     let least = (steps * step_volume(diameter)).div_ceil(thousandth);
     writable_below(least.min(u64::from(NUMBER_MAX)) as u32)

@@ -1,4 +1,4 @@
-//! Lines that nothing in the run asks for: queries, errors, bad bench lines, texts of every kind.
+//! Lines that nothing in the run asks for: queries, errors, bad lines, texts of every kind.
 
 use crate::composer::Composer;
 use crate::dress;
@@ -110,6 +110,9 @@ impl Composer {
     }
 
     pub fn noise(&mut self) {
+        if self.service && self.random.percent(25) {
+            return self.odd_bytes();
+        }
         match self.random.weighted(&[30, 25, 20, 10, 15]) {
             0 => {
                 let odd = self.random.pick(&ODD_COMMANDS);

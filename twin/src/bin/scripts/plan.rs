@@ -14,13 +14,15 @@ pub enum Planned {
 
 pub struct Plan {
     pub phases: Vec<Planned>,
+    /// For the service program, which alone shows beeps and the output: more of them.
+    service: bool,
 }
 
 const LONGEST: usize = 12;
 
 impl Plan {
-    pub fn new(random: &mut Random) -> Plan {
-        let mut plan = Plan { phases: Vec::new() };
+    pub fn new(random: &mut Random, service: bool) -> Plan {
+        let mut plan = Plan { phases: Vec::new(), service };
         if random.percent(25) {
             plan.phases.push(Planned::Aimed("EVN"));
         }
@@ -53,12 +55,14 @@ impl Plan {
     fn item(&mut self, random: &mut Random, depth: u32) {
         // Beyond three a loop is alarm E: now and then only.
         let loop_weight = [20, 18, 14, 5, 0][depth.min(4) as usize];
-        match random.weighted(&[30, 18, loop_weight, 15, 6, 7, 5, 9]) {
+        let plain_weight = if self.service { 35 } else { 7 };
+        match random.weighted(&[30, 18, loop_weight, 15, 6, plain_weight, 5, 9]) {
             0 => self.phases.push(Planned::Dispense("RAT")),
             1 => self.ramp(random),
             2 => self.nest(random, depth),
             3 => self.pause(random),
             4 => self.phases.push(Planned::Whole("PAS 0".to_string())),
+            5 if self.service && random.percent(50) => self.signalled(),
             5 => {
                 let plain = random.pick(&["BEP", "BEP", "OUT 0", "OUT 1", "EVR", "EVR"]);
                 self.phases.push(Planned::Whole(plain.to_string()))
@@ -69,6 +73,14 @@ impl Plan {
                 self.phases.push(Planned::Aimed(aimed))
             }
         }
+    }
+
+    /// A dispense during which the output is on, and a beep behind it.
+    fn signalled(&mut self) {
+        self.phases.push(Planned::Whole("OUT 1".to_string()));
+        self.phases.push(Planned::Dispense("RAT"));
+        self.phases.push(Planned::Whole("OUT 0".to_string()));
+        self.phases.push(Planned::Whole("BEP".to_string()));
     }
 
     fn nest(&mut self, random: &mut Random, depth: u32) {

@@ -12,7 +12,7 @@ impl Composer {
         if self.random.percent(50) {
             self.enter_diameter();
         }
-        let mut plan = Plan::new(&mut self.random);
+        let mut plan = Plan::new(&mut self.random, self.service);
         let length = plan.phases.len() as u8;
         let last_first = PHASES + 1 - length;
         let first = match self.random.weighted(&[75, 15, 10]) {
@@ -42,7 +42,7 @@ impl Composer {
                 || CurrentRate { thousandths: 1000, unit: RateUnit::MillilitreHour },
                 |phase| phase.stored_rate(),
             );
-            let plan = Plan::new(&mut self.random);
+            let plan = Plan::new(&mut self.random, self.service);
             let planned = self.random.pick(&plan.phases);
             self.enter_phase(n, &planned, &mut base);
         }

@@ -106,6 +106,9 @@ impl Composer {
     }
 
     pub fn ticks(&mut self) {
+        if self.service && self.random.percent(35) {
+            return self.many_ticks();
+        }
         let near = self.ticks_to_event();
         if near == 1 && self.random.percent(75) {
             let ticks = self.random.between(2, 1_200);
@@ -121,6 +124,23 @@ impl Composer {
             _ => self.random.between(20_000, LONG_TICKS_MAX),
         };
         self.line(format!("T {}", ticks.max(1)).into_bytes());
+    }
+
+    /// No tick at all, ticks across many phases, about as many as one call takes, and more.
+    fn many_ticks(&mut self) {
+        let near = self.ticks_to_event();
+        let wanted = match self.random.weighted(&[200, 150, 100, 400, 120, 15, 15]) {
+            0 => 0,
+            1 => near - 1,
+            2 => near,
+            3 => self.random.between(1_000, 12_000),
+            4 => self.random.between(12_000, 60_000),
+            5 => self.random.between(999_999, 1_000_001),
+            _ => self.random.between(1_000_002, 1_800_000),
+        };
+        let ticks = wanted.min(self.many_ticks);
+        self.many_ticks -= ticks;
+        self.line(format!("T {ticks}").into_bytes());
     }
 
     /// Ticks until the visit or the pause under way ends of itself.

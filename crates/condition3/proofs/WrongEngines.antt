@@ -4,13 +4,14 @@
 --     refusing always           condition 1, the exact table
 --     answering `00S` always    condition 2, at the first query
 --     leaving the state still   condition 2, at RUN and a tick
--- The last two are calls of many ticks: condition 3 is said of the single ticks, and what such a call itself hands back is the business of
+-- The last three are calls of many ticks: condition 3 is said of the single ticks, and what such a call itself hands back is the business of
 -- AddsUp (specs/Many.antt of the statement), which refuses them.
 -- (01, What a bidder's proof must pin; Slips we have met; 02, 1/12)
 -- Assumes nothing.
 use Prim.Native.Nat.{ℕ, _+_, _*_, _≤_}
 use Prim.Native.String.{String}
 use mathlib.Core.Path.{_≡_, refl, sym, ap}
+use mathlib.Core.Bool.{Bool}
 use mathlib.Core.List.{List, [], _∷_, _++_}
 use lib.Dec.{lit<}
 use lib.ListN.{length, replicate}
@@ -326,3 +327,27 @@ pub one-tick-behind : AddsUp lagging → ⊥
 unfolding opened singleTicks calls.ticksCall calls.inTurn reports.ofTicks
 one-tick-behind c =
     eqb-false 98_175_000 39_270_000 refl (ap (λ (p : Pump). coreOf p .ledger .totals .infused) (c .follows .1 .1 .1))
+
+-- and one that tells the level of its first tick: BEP leaves the output low, OUT 1 behind it sets it, and two ticks leave it high.
+-- Refused by `level`
+abbrev levelled : Report → Bool → Report
+levelled r level =
+    record {
+      pump = r .pump;
+      length = r .length;
+      infused = r .infused;
+      withdrawn = r .withdrawn;
+      beeps = r .beeps;
+      ticks = r .ticks;
+      refusal = r .refusal;
+      output = level;
+    }
+
+abbrev hasty : Event
+hasty =
+    let p : Pump = after (freshPump modelPhases) (lines ("" ∷ "FUNBEP" ∷ "PHN2" ∷ "FUNOUT1" ∷ "RUN" ∷ [])) in
+    many p 2 (levelled (reportAfter p (ticksIn 2)) (reportAfter p tickIn .output))
+
+pub first-level-told : AddsUp hasty → ⊥
+unfolding opened singleTicks calls.ticksCall calls.inTurn reports.ofTicks
+first-level-told c = false-true (c .level)

@@ -6,7 +6,7 @@
 -- Assumes nothing.
 use Prim.Native.Nat.{ℕ, _+_}
 use mathlib.Core.Path.{_≡_, refl, sym, ap, ap₂, _∙_}
-use mathlib.Core.Bool.{Bool, true, false, _||_, or-false}
+use mathlib.Core.Bool.{Bool, true, false, _||_, or-false, or-assoc}
 use mathlib.Core.List.{List, [], _∷_, _++_, map}
 use native.Mathlib.Nat.{zero-add, add-zero, add-assoc}
 use Rattle.drive.specs.declared.directions.Direction.{Direction}
@@ -58,10 +58,6 @@ counts-are-sums n p =
     )
 
 -- ---- their refusals
-or-assoc : (t u v : Bool) → (t || u || v) ≡ (t || (u || v))
-or-assoc true u v = refl
-or-assoc false u v = refl
-
 refused-told :
     (t : Elapsed) (ns : List ℕ) → afterCalls t ns .refused ≡ (t .refused || someRefused (trace (t .pump) (map ticksIn ns)))
 unfolding afterCalls trace someRefused

@@ -14,3 +14,4 @@ pub use ledgers::Pair;
 pub use rates::Rate;
 pub use visits::Visit;
 pub use visits::Worked;
+pub use visits::due_in;

@@ -1,5 +1,6 @@
 // A rate visit under way and its working tick.
 ghost use mathlib.Core.Path.{_≡_};
+ghost use Prim.Native.Nat.{_*_, _/_, _≤_, _<_};
 ghost use Rattle.dispense.specs.Visits.{Working, work, isDone};
 
 // Steps given, step target (0: a continuous visit, which has none and counts none), and the time store.
@@ -23,8 +24,8 @@ impl Visit {
         ensures { λ r. ⌜ r ≡ work self hourly threshold ⌝ }
     {
         let sum = self.store + hourly;
-        let due = sum / threshold;
-        let store = sum % threshold;
+        let due = due_in(sum, threshold);
+        let store = sum - due * threshold;
         let given = self.given;
         let target = self.target;
         if target == 0 {
@@ -55,4 +56,16 @@ impl Visit {
     {
         (0 < self.target) & (self.target <= self.given)
     }
+}
+
+// How many thresholds there are in a sum of less than five. They are counted: a division takes longer than all else in a tick.
+pub fn due_in(sum: u64, threshold: u64) -> u64
+    requires { ⌜ (sum < 5 * threshold) × (threshold ≤ 1_767_150_000_000_000) ⌝ }
+    ensures { λ r. ⌜ r ≡ sum / threshold ⌝ }
+{
+    let one = threshold <= sum;
+    let two = 2 * threshold <= sum;
+    let three = 3 * threshold <= sum;
+    let four = 4 * threshold <= sum;
+    one as u64 + two as u64 + three as u64 + four as u64
 }

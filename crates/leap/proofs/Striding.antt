@@ -1,6 +1,7 @@
--- Strides: the numbers of k ticks at once fit, a long stride by thousands is the stride, and one tick more is the next stride.
+-- Strides: a sum taken apart by the threshold; the numbers of k ticks at once fit, a long stride by thousands is the stride, and one tick
+-- more is the next stride.
 -- Assumes nothing.
-use Prim.Native.Nat.{ℕ, _+_, _*_, _/_, _%_, _≤_, _<_}
+use Prim.Native.Nat.{ℕ, _+_, _-_, _*_, _/_, _%_, _≤_, _<_}
 use mathlib.Core.Path.{_≡_, refl, sym, ap, _∙_}
 use mathlib.Core.Bool.{true, _||_}
 use native.Mathlib.Nat.{mul-le-mul, mod-add-mod, mod-lt, mod-add-div', add-mul-div-right, add-mul-mod-self-right}
@@ -9,6 +10,7 @@ use native.Mathlib.Omega.{arith}
 use lib.Dec.{leb}
 use borrow.Author.Tests.{leb-true}
 use Rattle.base.proofs.Each.{either}
+use Rattle.dispense.proofs.Counting.{taken-off, taken-at-most}
 use Rattle.leap.specs.Strides.{Steady, strideSteps, strideStore, strideOver}
 use Rattle.leap.specs.declared.strides.Stride.{Stride}
 
@@ -19,6 +21,22 @@ parted-div x n r t e h =
 
 parted-mod : (x n r t : ℕ) → x ≡ r + n * t → r < t → x % t ≡ r
 parted-mod x n r t e h = ap (λ (y : ℕ). y % t) e ∙ add-mul-mod-self-right r n t ∙ mod-eq-of-lt h
+
+-- so many thresholds are known to be in it, and those of the rest are counted
+pub parted-above :
+    (sum t sure due : ℕ)
+    → 0 < t
+    → sure * t ≤ sum
+    → due ≡ (sum - sure * t) / t
+    → _≡_ {A = Stride} (record { steps = sure + due; store = sum - sure * t - due * t }) (record { steps = sum / t; store = sum % t })
+parted-above sum t sure due p h e =
+    let rest = sum - sure * t in
+    let r = rest - due * t in
+    let off : r ≡ rest % t = ap (λ (n : ℕ). rest - n * t) e ∙ taken-off rest t in
+    let below : r < t = omega (arith, off, mod-lt rest p) in
+    let most : due * t ≤ rest = rw e (taken-at-most rest t) in
+    let whole : sum ≡ r + (sure + due) * t = omega (arith, h, most) in
+    λ i. record { steps = sym (parted-div sum (sure + due) r t whole below) i; store = sym (parted-mod sum (sure + due) r t whole below) i }
 
 -- a tick divides, the next one divides the rest with more: together they divide the sum
 div-on : (a b t : ℕ) → 0 < t → a / t + (a % t + b) / t ≡ (a + b) / t

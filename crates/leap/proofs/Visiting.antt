@@ -3,7 +3,7 @@
 use Prim.Native.Nat.{ℕ, _+_, _-_, _≤_, _<_}
 use mathlib.Core.Path.{_≡_, refl, sym, ap, _∙_}
 use mathlib.Core.Logic.{_⊎_, inl, inr}
-use mathlib.Core.Bool.{Bool, true, false, _||_}
+use mathlib.Core.Bool.{Bool, true, false, _||_, or-true}
 use native.Mathlib.Omega.{arith}
 use lib.Dec.{ltb, eqb}
 use borrow.Author.Tests.{ltb-true, ltb-false, eqb-true, eq-eqb, ne-eqb, lt-ltb, le-ltb, lt-leb}
@@ -24,10 +24,6 @@ fewer-than-left given steps target h = go (ltb (given + steps) target) refl
     go : (t : Bool) → ltb (given + steps) target ≡ t → ltb steps (target - given) ≡ t
     go true e = lt-ltb steps (target - given) (omega (arith, ltb-true (given + steps) target e))
     go false e = le-ltb steps (target - given) (omega (arith, ltb-false (given + steps) target e))
-
-or-true : (t : Bool) → (t || true) ≡ true
-or-true true = refl
-or-true false = refl
 
 module _ (v : Visit) where
   -- no target, or one that is not reached

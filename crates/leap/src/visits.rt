@@ -63,7 +63,8 @@ fn leap_at(
     requires { ⌜ Giving run ledger syringe direction visit hourly × (ticks ≤ mostTicks) ⌝ }
     ensures { λ r. ⌜ r ≡ leapAt run ledger syringe direction visit hourly ticks ⌝ }
 {
-    let stride = stride_over(visit.store, hourly, syringe.step_threshold(), ticks);
+    let left = visit.target - visit.given;
+    let stride = stride_over(visit.store, hourly, syringe.step_threshold(), ticks, left);
     let dose = stride.steps * syringe.step_volume();
     let short = is_short(visit, stride.steps);
     if short & (ledger.total_of(direction) + dose <= dispense::MOST_TOTAL) {

@@ -2,7 +2,7 @@
 -- Assumes nothing.
 use Prim.Native.Nat.{ℕ, _+_, _≤_}
 use mathlib.Core.Path.{_≡_, refl, sym, ap, _∙_}
-use mathlib.Core.Bool.{Bool, true, false, _||_}
+use mathlib.Core.Bool.{Bool, true, false, _||_, or-true}
 use mathlib.Core.List.{List, [], _∷_, _++_}
 use native.Mathlib.Omega.{arith}
 use lib.Dec.{eqb, ltb}
@@ -41,10 +41,6 @@ some-written (b ∷ v) i j e = lt-ltb i j (omega arith)
 some-line : (s : List ℕ) → some (s ++ (newline ∷ [])) ≡ true
 some-line [] = refl
 some-line (b ∷ s) = refl
-
-or-true : (t : Bool) → (t || true) ≡ true
-or-true true = refl
-or-true false = refl
 
 or-false : (t : Bool) → (t || false) ≡ t
 or-false true = refl

@@ -2,7 +2,7 @@
 -- Assumes nothing.
 use Prim.Native.Nat.{ℕ}
 use mathlib.Core.Path.{_≡_, refl, sym, ap, _∙_}
-use mathlib.Core.Bool.{Bool, true, false, _||_}
+use mathlib.Core.Bool.{Bool, true, false, _||_, or-assoc}
 use mathlib.Core.List.{List, [], _∷_, _++_, append-assoc, append-nil}
 use Rattle.base.specs.If.{if_then_else_}
 use Rattle.base.proofs.Choices.{false-true}
@@ -73,10 +73,6 @@ text-pump g (b ∷ l) = text-pump (sentRig g b) l
 some-append : (s t : List ℕ) → some (s ++ t) ≡ (some s || some t)
 some-append [] t = refl
 some-append (b ∷ s) t = refl
-
-or-assoc : (t u v : Bool) → (t || u || v) ≡ (t || (u || v))
-or-assoc true u v = refl
-or-assoc false u v = refl
 
 -- ---- what is printed
 abbrev emptyUnless : Bool → List ℕ

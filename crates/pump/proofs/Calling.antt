@@ -158,7 +158,8 @@ module _ (p : Pump) (u : Bool) (s : u ≡ isSoundPump p) (x : Refusal) (t : Bool
     unfolding pinCall
     pin-refused h q = q ∙ ap (refused p) pin-refusal ∙ sym (simp (pin-tested ∙ h))
 
-    pub pin-done : (v : Device) → t ≡ false → v ≡ edge (p .device) pin (eqb level 1) → r ≡ reported (withDevice p v) 0 → r ≡ pinCall p pin level
+    pub pin-done :
+        (v : Device) → t ≡ false → v ≡ edge (p .device) pin (eqb level 1) → r ≡ reported (withDevice p v) 0 → r ≡ pinCall p pin level
     unfolding pinCall
     pin-done v h e q = q ∙ ap (λ (w : Device). reported (withDevice p w) 0) e ∙ sym (simp (pin-tested ∙ h))
 
@@ -241,7 +242,10 @@ module _ (p : Pump) (b : ℕ) (buffer : List ℕ) (a : Arrived) (v : Device)
     quiet = ap (λ (x : Pump). record { pump = x; said = Nothing }) held-is ∙ sym (simp e) ∙ ap (calls.heardBy p) k
 
     pub line-goes-on : (r : Report) → r ≡ reported (withDevice p v) 0 → r ≡ received p b buffer
-    line-goes-on r q = q ∙ ap (reported (withDevice p v)) (silent-length buffer) ∙ ap (λ (x : Listened). answered (x .pump) (x .said) buffer) quiet
+    line-goes-on r q =
+        q
+        ∙ ap (reported (withDevice p v)) (silent-length buffer)
+        ∙ ap (λ (x : Listened). answered (x .pump) (x .said) buffer) quiet
 
     pub buffer-stays : buffer ≡ receivedBuffer p b buffer
     buffer-stays = silent-buffer buffer ∙ ap (λ (x : Listened). bufferAfter 0 (x .said) buffer) quiet

@@ -1,12 +1,9 @@
--- The pump by its parts: the whole tested, power-up, the edit that a command asks for, and a flag as a count.
+-- The pump by its parts: the whole tested, power-up, the edit that a command asks for.
 -- Assumes nothing.
-use Prim.Native.Nat.{ℕ, _≤_}
-use mir.Val as mir-val
+use Prim.Native.Nat.{ℕ}
 use mathlib.Core.Path.{_≡_, refl, sym, ap, _∙_}
 use mathlib.Core.Bool.{Bool, true, false, not}
-use native.Mathlib.Omega.{arith}
 use lib.ListN.{set, replicate}
-use Rattle.base.specs.If.{if_then_else_}
 use Rattle.words.specs.Phases.{powerUp}
 use Rattle.words.specs.declared.phases.Phase.{Phase}
 use Rattle.command.specs.declared.obeying.Edit.{Edit}
@@ -54,12 +51,3 @@ not-false false e = sym e
 pub not-true : (b : Bool) → not b ≡ true → b ≡ false
 not-true true e = sym e
 not-true false e = refl
-
--- ---- a flag as a count
-pub counted : (b : Bool) → mir-val.boolByte b ≡ (if b then 1 else 0)
-counted true = refl
-counted false = refl
-
-pub bool-few : (b : Bool) → mir-val.boolByte b ≤ 1
-bool-few true = omega arith
-bool-few false = omega arith

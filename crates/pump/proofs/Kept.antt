@@ -77,7 +77,11 @@ abbrev pub withPumpCore : Pump → Core → Pump
 withPumpCore p s = withDevice p (withCore (p .device) s)
 
 module _ (p : Pump) where
-  pub core-sound : isSoundPump p ≡ true → (s : Core) → isSoundCore (phaseCount p) s (phaseAt (p .phases) (s .run .place .current)) ≡ true → isSoundPump (withPumpCore p s) ≡ true
+  pub core-sound :
+      isSoundPump p ≡ true
+      → (s : Core)
+      → isSoundCore (phaseCount p) s (phaseAt (p .phases) (s .run .place .current)) ≡ true
+      → isSoundPump (withPumpCore p s) ≡ true
   core-sound e s k = pump-sound (withPumpCore p s) (pump-phases p e) k (pump-line p e)
 
   -- ---- a tick of a sound pump is what the rules give

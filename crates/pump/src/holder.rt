@@ -1,6 +1,7 @@
 // The phases: the pump's state, its constants, the phase of a number, and the edit that a command asks for.
 ghost use mathlib.Core.Path.{_≡_};
-ghost use Rattle.pump.specs.Holder.{modelPhases, phaseCount, freshPump, freshPhases, phaseAt, withPhase, withPhases, withDevice, edited};
+ghost use Rattle.pump.specs.Holder.{modelPhases, phaseCount, freshPump, freshPhases, phaseAt};
+ghost use Rattle.pump.specs.Holder.{withPhase, withPhases, withDevice, edited};
 use crate::device::Device;
 use command::Edit;
 use words::Phase;

@@ -10,8 +10,8 @@ use mir.Val.{boolByte}
 use lib.Dec.{eqb}
 use lib.ListN.{length, take, length-take}
 use borrow.Author.Tests.{ne-eqb, eq-eqb}
-use Rattle.base.specs.If.{if_then_else_}
 use Rattle.base.specs.Wrote.{Wrote}
+use Rattle.base.proofs.Flags.{flag-counted}
 use Rattle.base.proofs.Writing.{wrote-as, wrote-then, wrote-none, wrote-length}
 use Rattle.pump.specs.Calls.{byteReport}
 use Rattle.pump.specs.declared.holder.Pump.{Pump}
@@ -55,10 +55,6 @@ effects-prints n infused withdrawn beeps level t i w b o =
     (omega (arith, t .few, i .few, w .few, b .few, o .few))
 
 -- ---- ticks that were refused, and others; the code makes a number of the level
-level-byte : (high : Bool) → boolByte high ≡ (if high then 1 else 0)
-level-byte true = refl
-level-byte false = refl
-
 module _ {l m : List ℕ} {j : ℕ} (n : ℕ) (e : Elapsed) where
   pub ticks-refused : e .refused ≡ true → Wrote l m 0 j complaintLine → Prints l m 0 j 115 (ticksLine n e)
   unfolding ticksLine
@@ -69,7 +65,7 @@ module _ {l m : List ℕ} {j : ℕ} (n : ℕ) (e : Elapsed) where
       → Prints l m 0 j 115 (effectsLine n (e .infused) (e .withdrawn) (e .beeps) (boolByte (e .output)))
       → Prints l m 0 j 115 (ticksLine n e)
   unfolding ticksLine
-  ticks-counted r w = prints-as (w .wrote) (rw (level-byte (e .output)) (sym (simp r))) (w .few)
+  ticks-counted r w = prints-as (w .wrote) (rw (flag-counted (e .output)) (sym (simp r))) (w .few)
 
 -- ---- a byte call that was refused, one without an answer, and one with it
 module _ (refused : Bool) (answer : List ℕ) where

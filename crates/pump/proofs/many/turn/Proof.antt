@@ -1,7 +1,7 @@
 -- `turn` meets its contract.
 -- Assumes nothing.
 use native.Mathlib.Omega.{arith}
-use Rattle.pump.proofs.Holding.{counted, bool-few}
+use Rattle.base.proofs.Flags.{flag-counted, flag-few}
 use Rattle.pump.proofs.Turning.{turn-ready, turn-current, hops, leapt-ready, strides}
 use borrow.Author.Needs.{needs}
 use Rattle.pump.proofs.many.turn.Statement.{statement}
@@ -60,15 +60,15 @@ add-t22 c =
     let leapt = c .before .before .before .before .before .before .before .before .before .before .before in
     let k = leapt .before .before .before .before .before in
     let l = leapt .leap .ensures in
-    omega (arith, k .pre .some, k .pre .few-left, k .pre .beeps-few, l .few, l .within, bool-few (m .result .beep))
+    omega (arith, k .pre .some, k .pre .few-left, k .pre .beeps-few, l .few, l .within, flag-few (m .result .beep))
 
 returns-2 : tie.Need-returns-2
 returns-2 c =
     let k = c .before .before .before .before .before .before .before .before .before .before .before .before .before .before .before .before in
     let l = c .before .before .before .before .before .before .before .before .before .before .before .leap in
     let m = c .before .before .before .before .before .before .before .before .before .before .tick in
-    strides _ _ (k .pre) _ (l .ensures) (m .result) (m .ensures) (omega arith) (omega arith) _ (counted (m .result .beep))
-    (bool-few (m .result .beep))
+    strides _ _ (k .pre) _ (l .ensures) (m .result) (m .ensures) (omega arith) (omega arith) _ (flag-counted (m .result .beep))
+    (flag-few (m .result .beep))
 
 pub turn-spec : {M : Type 1} → statement M
 turn-spec =

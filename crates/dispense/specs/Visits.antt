@@ -3,6 +3,7 @@ use Prim.Native.Nat.{ℕ, _+_, _-_, _*_, _/_, _%_, _≤_, _<_, min}
 use mathlib.Core.Bool.{Bool, _&&_}
 use lib.Dec.{ltb, leb, eqb}
 use Rattle.base.specs.If.{if_then_else_}
+use Rattle.drive.specs.Syringe.{mostThreshold}
 use Rattle.dispense.specs.declared.visits.Visit.{Visit}
 use Rattle.dispense.specs.declared.visits.Worked.{Worked}
 
@@ -11,7 +12,7 @@ pub record Working (v : Visit) (hourly threshold : ℕ) : Type 0 where
   pub store-below : v .store < threshold
   pub usable : hourly ≤ 4 * threshold
   pub within : v .given ≤ v .target
-  pub bounded : threshold ≤ 1_767_150_000_000_000
+  pub bounded : threshold ≤ mostThreshold
 
 -- the hourly rate is added to the store; every threshold in it is a due step, and is taken off
 unfoldable pub dueOf : Visit → ℕ → ℕ → ℕ

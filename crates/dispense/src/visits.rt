@@ -1,6 +1,7 @@
 // A rate visit under way and its working tick.
 ghost use mathlib.Core.Path.{_≡_};
 ghost use Prim.Native.Nat.{_*_, _/_, _≤_, _<_};
+ghost use Rattle.drive.specs.Syringe.{mostThreshold};
 ghost use Rattle.dispense.specs.Visits.{Working, work, isDone};
 
 // Steps given, step target (0: a continuous visit, which has none and counts none), and the time store.
@@ -60,7 +61,7 @@ impl Visit {
 
 // How many thresholds there are in a sum of less than five. They are counted: a division takes longer than all else in a tick.
 pub fn due_in(sum: u64, threshold: u64) -> u64
-    requires { ⌜ (sum < 5 * threshold) × (threshold ≤ 1_767_150_000_000_000) ⌝ }
+    requires { ⌜ (sum < 5 * threshold) × (threshold ≤ mostThreshold) ⌝ }
     ensures { λ r. ⌜ r ≡ sum / threshold ⌝ }
 {
     let one = threshold <= sum;

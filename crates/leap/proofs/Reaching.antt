@@ -4,6 +4,7 @@ use Prim.Native.Nat.{ℕ, _+_, _-_, _*_, _/_, _%_, _≤_, _<_}
 use mathlib.Core.Path.{_≡_}
 use native.Mathlib.Nat.{mul-le-mul, mod-le, mod-lt, div-le-self, div-lt-iff-lt-mul}
 use native.Mathlib.Omega.{arith}
+use Rattle.drive.specs.Syringe.{mostThreshold}
 use Rattle.leap.specs.Strides.{Steady}
 
 -- ---- few steps: their thresholds fit, and are more than the store
@@ -25,16 +26,16 @@ module _ (steps store hourly t : ℕ) where
   sum = steps / 4000 * (4000 * rest % hourly) + steps % 4000 * rest + (t - 1 - store)
 
   pub record Sizes : Type 0 where
-    pub rest-small : rest ≤ 1_767_150_000_000_000
+    pub rest-small : rest ≤ mostThreshold
     pub lots-small : steps / 4000 * (4000 * rest % hourly) ≤ 7_068_600_000_000_000_000
     pub ones-small : steps % 4000 * rest ≤ 7_068_600_000_000_000_000
-    pub threshold-small : t ≤ 1_767_150_000_000_000
+    pub threshold-small : t ≤ mostThreshold
     pub each-small : steps * (t / hourly) ≤ 4_000_000_000
     pub each-lot-small : steps / 4000 * (4000 * rest / hourly) ≤ 4_000_000
     pub quotient-small : sum / hourly ≤ sum
 
   module _ (w : Steady store hourly t) (positive : 0 < hourly) (few : steps ≤ 4_000_000) (short : t / hourly ≤ 1000) where
-    rest-le : rest ≤ 1_767_150_000_000_000
+    rest-le : rest ≤ mostThreshold
     rest-le = let h : rest ≤ t = mod-le t hourly in omega (arith, h, w .bounded)
 
     left-le : 4000 * rest % hourly ≤ 7_068_600_000_000_000

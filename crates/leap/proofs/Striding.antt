@@ -10,6 +10,7 @@ use native.Mathlib.Omega.{arith}
 use lib.Dec.{leb}
 use borrow.Author.Tests.{leb-true}
 use Rattle.base.proofs.Each.{either}
+use Rattle.drive.specs.Syringe.{mostThreshold}
 use Rattle.dispense.proofs.Counting.{taken-off, taken-at-most}
 use Rattle.leap.specs.Strides.{Steady, strideSteps, strideStore, strideOver}
 use Rattle.leap.specs.declared.strides.Stride.{Stride}
@@ -77,7 +78,7 @@ module _ (store hourly t k : ℕ) where
 
   -- how large its numbers are
   pub record Sizes : Type 0 where
-    pub rest-small : rest ≤ 1_767_150_000_000_000
+    pub rest-small : rest ≤ mostThreshold
     pub thousands-small : k / 1000 * rest-thousand ≤ 1_767_150_000_000_000_000
     pub ones-small : k % 1000 * rest ≤ 1_767_150_000_000_000_000
     pub first-small : first ≤ 1_768_917_150_000_000_000

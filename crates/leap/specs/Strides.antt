@@ -1,5 +1,6 @@
 -- Many working ticks at one rate, reckoned at once.   (01, Ticks and phases, RAT: due steps and time store)
 use Prim.Native.Nat.{ℕ, _+_, _*_, _/_, _%_, _≤_, _<_}
+use Rattle.drive.specs.Syringe.{mostThreshold}
 use Rattle.leap.specs.declared.strides.Stride.{Stride}
 
 -- k ticks add the hourly rate k times to the time store; every threshold in the sum is a due step
@@ -18,4 +19,4 @@ strideOver store hourly threshold k =
 pub record Steady (store hourly threshold : ℕ) : Type 0 where
   pub store-below : store < threshold
   pub usable : hourly ≤ 4 * threshold
-  pub bounded : threshold ≤ 1_767_150_000_000_000
+  pub bounded : threshold ≤ mostThreshold

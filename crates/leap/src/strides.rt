@@ -1,6 +1,7 @@
 // Many working ticks at one rate, reckoned at once: the steps that fall due in them, and the time store after them.
 ghost use mathlib.Core.Path.{_≡_};
 ghost use Prim.Native.Nat.{_/_, _%_, _≤_, _<_};
+ghost use Rattle.drive.specs.Syringe.{mostThreshold};
 ghost use Rattle.leap.specs.Leaps.{mostTicks};
 ghost use Rattle.leap.specs.Strides.{Steady, strideOver};
 
@@ -23,9 +24,10 @@ pub fn stride_over(store: u64, hourly: u64, threshold: u64, ticks: u32, end: u64
 }
 
 // A sum taken apart by the threshold. A leap up to the end of a visit stays short of it by at most four thresholds, those of its last
-// tick: above that point they are counted, since a division takes longer than all else in a leap. So many thresholds fit in 64 bits.
+// tick: up to there they are sure, and the rest is counted, since a division takes longer than all else in a leap. 10,000 thresholds
+// fit in 64 bits.
 fn stride_in(sum: u64, threshold: u64, end: u64) -> Stride
-    requires { ⌜ (0 < threshold) × (threshold ≤ 1_767_150_000_000_000) ⌝ }
+    requires { ⌜ (0 < threshold) × (threshold ≤ mostThreshold) ⌝ }
     ensures { λ r. ⌜ r ≡ record { steps = sum / threshold; store = sum % threshold } ⌝ }
 {
     let sure = if (4 < end) & (end <= 10_000) {

@@ -59,7 +59,7 @@ impl Visit {
     }
 }
 
-// How many thresholds there are in a sum of less than five. They are counted: a division takes longer than all else in a tick.
+// How many thresholds there are in a sum of less than five. They are counted, which was measured to be faster than a division.
 pub fn due_in(sum: u64, threshold: u64) -> u64
     requires { ⌜ (sum < 5 * threshold) × (threshold ≤ mostThreshold) ⌝ }
     ensures { λ r. ⌜ r ≡ sum / threshold ⌝ }

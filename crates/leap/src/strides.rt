@@ -24,8 +24,8 @@ pub fn stride_over(store: u64, hourly: u64, threshold: u64, ticks: u32, end: u64
 }
 
 // A sum taken apart by the threshold. A leap up to the end of a visit stays short of it by at most four thresholds, those of its last
-// tick: up to there they are sure, and the rest is counted, since a division takes longer than all else in a leap. 10,000 thresholds
-// fit in 64 bits.
+// tick: up to there they are sure, and the rest is counted, which was measured to be faster than a division. 10,000 thresholds fit in
+// 64 bits.
 fn stride_in(sum: u64, threshold: u64, end: u64) -> Stride
     requires { ⌜ (0 < threshold) × (threshold ≤ mostThreshold) ⌝ }
     ensures { λ r. ⌜ r ≡ record { steps = sum / threshold; store = sum % threshold } ⌝ }

@@ -1,11 +1,11 @@
--- What a caller may rely on, whatever the address, what is said, and the buffer:
---     answer-longest, answer-length    an answer has at most 19 bytes, and so fits every buffer that takes one
---     answer-least, alarm-length       an answer has at least 5, an alarm 7
+-- What a caller may rely on, whatever the frame, the address, what is said, and the buffer:
+--     answer-longest, answer-length    an answer has at most 19 bytes, as a packet 22, and so fits every buffer that takes one
+--     answer-least, alarm-length       an answer has at least 5; an alarm 7, as a packet 10
 --     written-then-kept    a buffer with room holds the answer, and behind it what stood there
 --     length-kept          no buffer changes its length
 --     short-untouched      a buffer without room is left as it is, and the told length is 0
 -- Assumes nothing.
-use Prim.Native.Nat.{ℕ, _≤_, _<_}
+use Prim.Native.Nat.{ℕ, _+_, _≤_, _<_}
 use mathlib.Core.Path.{_≡_, refl, sym}
 use mathlib.Core.Bool.{Bool, true, false}
 use mathlib.Core.List.{List}
@@ -19,49 +19,67 @@ use Rattle.words.specs.declared.answers.Reply.{Reply}
 use Rattle.words.specs.declared.answers.Said.{Said}
 use Rattle.words.specs.declared.answers.Said.the-variants as said
 use Rattle.words.specs.declared.answers.Status.{Status}
-use Rattle.answer.specs.Answers.{bodyOf, answerOf, room, lengthIn, bufferAfter}
-use Rattle.answer.proofs.Lengths.{framed-length, answer-around, body-length}
+use Rattle.answer.specs.Answers.{answerOf, room, lengthIn, bufferAfter}
+use Rattle.answer.specs.declared.frame.Frame.{Frame}
+use Rattle.answer.specs.declared.frame.Frame.the-variants as frame
+use Rattle.answer.proofs.Lengths.{around, alarm-around, answer-around, data-length}
 use Rattle.answer.proofs.Buffers.{untouched}
 
-pub answer-least : (address : ℕ) (status : Status) (reply : Reply) → 5 ≤ length (answerOf address (said.Answer status reply))
-answer-least address status reply = omega (arith, answer-around address status reply)
+-- the longest answer is that of DIS
+abbrev pub longest : Frame → ℕ
+longest frame.Line = 19
+longest frame.Packet = 22
 
-pub alarm-length : (address : ℕ) (alarm : Alarm) → length (answerOf address (said.Alarm alarm)) ≡ 7
-alarm-length address alarm = omega (arith, framed-length address (bodyOf (said.Alarm alarm)))
+longest-around : (frame : Frame) → around frame + 17 ≡ longest frame
+longest-around frame.Line = refl
+longest-around frame.Packet = refl
 
-pub answer-longest : (address : ℕ) (said : Said) → length (answerOf address said) ≤ 19
-answer-longest address said.Nothing = omega arith
-answer-longest address (said.Alarm alarm) =
-    let body = bodyOf (said.Alarm alarm) in
-    omega (arith, framed-length address body, body-length (said.Alarm alarm))
-answer-longest address (said.Answer status reply) =
-    let body = bodyOf (said.Answer status reply) in
-    omega (arith, framed-length address body, body-length (said.Answer status reply))
+around-least : (frame : Frame) → 2 ≤ around frame
+around-least frame.Line = omega arith
+around-least frame.Packet = omega arith
 
-module _ (address : ℕ) (said : Said) where
-  pub answer-length : length (answerOf address said) ≤ room
-  answer-length = omega (arith, answer-longest address said)
+longest-fits : (frame : Frame) → longest frame ≤ room
+longest-fits frame.Line = omega arith
+longest-fits frame.Packet = omega arith
+
+module _ (frame : Frame) (address : ℕ) where
+  pub answer-least : (status : Status) (reply : Reply) → 5 ≤ length (answerOf frame address (said.Answer status reply))
+  answer-least status reply = omega (arith, answer-around frame address status reply, around-least frame)
+
+  pub alarm-length : (alarm : Alarm) → length (answerOf frame address (said.Alarm alarm)) ≡ around frame + 5
+  alarm-length alarm = alarm-around frame address alarm
+
+  pub answer-longest : (said : Said) → length (answerOf frame address said) ≤ longest frame
+  answer-longest said.Nothing = omega arith
+  answer-longest (said.Alarm alarm) = omega (arith, alarm-around frame address alarm, longest-around frame)
+  answer-longest (said.Answer status reply) =
+      omega (arith, answer-around frame address status reply, data-length reply, longest-around frame)
+
+module _ (frame : Frame) (address : ℕ) (said : Said) where
+  pub answer-length : length (answerOf frame address said) ≤ room
+  answer-length = omega (arith, answer-longest frame address said, longest-fits frame)
 
   pub written-then-kept :
       (buffer : List ℕ)
       → room ≤ length buffer
-      → (take (length (answerOf address said)) (bufferAfter address said buffer) ≡ answerOf address said)
-      × (drop (length (answerOf address said)) (bufferAfter address said buffer) ≡ drop (length (answerOf address said)) buffer)
+      → (take (length (answerOf frame address said)) (bufferAfter frame address said buffer) ≡ answerOf frame address said)
+      × (drop (length (answerOf frame address said)) (bufferAfter frame address said buffer)
+      ≡ drop (length (answerOf frame address said)) buffer)
   unfolding bufferAfter
   written-then-kept buffer h =
       let roomy = le-leb room (length buffer) h in
-      (simp roomy (take-at (answerOf address said) _ _ refl), simp roomy (drop-at (answerOf address said) _ _ refl))
+      (simp roomy (take-at (answerOf frame address said) _ _ refl), simp roomy (drop-at (answerOf frame address said) _ _ refl))
 
-  pub length-kept : (buffer : List ℕ) → length (bufferAfter address said buffer) ≡ length buffer
+  pub length-kept : (buffer : List ℕ) → length (bufferAfter frame address said buffer) ≡ length buffer
   unfolding bufferAfter
   length-kept buffer = by-room (leb room (length buffer)) refl
     where
-      by-room : (t : Bool) → leb room (length buffer) ≡ t → length (bufferAfter address said buffer) ≡ length buffer
+      by-room : (t : Bool) → leb room (length buffer) ≡ t → length (bufferAfter frame address said buffer) ≡ length buffer
       by-room true e = simp (e, length-append, length-drop) (omega (arith, answer-length, leb-true room (length buffer) e))
       by-room false e = simp e
 
   pub short-untouched :
-      (buffer : List ℕ) → length buffer < room → (bufferAfter address said buffer ≡ buffer) × (lengthIn address said buffer ≡ 0)
+      (buffer : List ℕ) → length buffer < room → (bufferAfter frame address said buffer ≡ buffer) × (lengthIn frame address said buffer ≡ 0)
   short-untouched buffer h =
-      let met = untouched address said buffer h in
+      let met = untouched frame address said buffer h in
       (sym (met .1), sym (met .0))

@@ -1,8 +1,8 @@
--- The bytes that stand behind the status letter, for each case of a reply.   (01, Line and answer; the queries of Commands)
+-- The bytes that stand behind the status letter, for each case of a reply.   (01, Line and answer; the queries of Commands; 02, 2/12)
 use Prim.Native.Nat.{ℕ}
 use mathlib.Core.List.{List, [], _++_}
 use Rattle.base.specs.Text.{text}
-use Rattle.decimal.specs.Print.{print, printTwo}
+use Rattle.decimal.specs.Print.{print, printTwo, printThree}
 use Rattle.drive.specs.declared.syringe.VolumeUnit.{VolumeUnit}
 use Rattle.words.specs.Spelling.{functionName, datumText, rateLetters, volumeLetters, directionLetters}
 use Rattle.words.specs.declared.answers.Reply.{Reply}
@@ -23,10 +23,12 @@ dataOf r.Status = []
 dataOf r.Malformed = text "?"
 dataOf r.NotApplicable = text "?NA"
 dataOf r.OutOfRange = text "?OOR"
+dataOf r.Garbled = text "?COM"
 dataOf (r.Number x) = print x
 dataOf (r.Rate x unit) = print x ++ rateLetters unit
 dataOf (r.Volume x unit) = print x ++ volumeLetters unit
 dataOf (r.Direction d) = directionLetters d
 dataOf (r.Phase n) = printTwo n
+dataOf (r.Limit n) = printThree n
 dataOf (r.Function g) = functionText g
 dataOf (r.Totals infused withdrawn unit) = totalsText infused withdrawn unit

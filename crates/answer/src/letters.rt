@@ -27,6 +27,7 @@ pub fn alarm_letter(alarm: Alarm) -> u8
     match alarm {
         Alarm::PowerUp => b'R',
         Alarm::Program => b'E',
+        Alarm::TimeOut => b'T',
     }
 }
 

@@ -26,6 +26,9 @@ const NOT_APPLICABLE: [u8; 3] = *b"?NA";
 // The pump does not take the value.
 const OUT_OF_RANGE: [u8; 4] = *b"?OOR";
 
+// The packet was not good.
+const GARBLED: [u8; 4] = *b"?COM";
+
 // The status letter and what the reply says, or the alarm in their place.
 pub fn body(said: Said, out: &mut [u8], at: usize) -> usize
     requires { ⌜ at + 17 ≤ length (now out) ⌝ }
@@ -51,11 +54,13 @@ fn data(reply: Reply, out: &mut [u8], at: usize) -> usize
         Reply::Malformed => put(out, at, b'?'),
         Reply::NotApplicable => three_bytes(NOT_APPLICABLE, out, at),
         Reply::OutOfRange => four_bytes(OUT_OF_RANGE, out, at),
+        Reply::Garbled => four_bytes(GARBLED, out, at),
         Reply::Number(x) => number(x, out, at),
         Reply::Rate(x, unit) => quantity(x, rate_letters(unit), out, at),
         Reply::Volume(x, unit) => quantity(x, volume_letters(unit), out, at),
         Reply::Direction(d) => three_bytes(direction_letters(d), out, at),
         Reply::Phase(n) => two_digits(n, out, at),
+        Reply::Limit(n) => three_bytes(decimal::print_three(n), out, at),
         Reply::Function(f) => function(f, out, at),
         Reply::Totals(infused, withdrawn, unit) => totals(infused, withdrawn, unit, out, at),
     }

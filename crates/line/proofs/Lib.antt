@@ -9,5 +9,7 @@ pub mod Asking
 pub mod Behind
 pub mod Collecting
 pub mod Sent
+pub mod Requesting
 pub mod ReadBack
 pub mod Theorems
+pub mod Examples

@@ -4,6 +4,9 @@
 --     empty-sound      the empty line is sound
 --     byte-sound       a sound line is sound after any byte; places-kept: it keeps its 40 places
 --     asked-sendable   what a line asks for can be sent: its numbers are writable, its short data have two digits at the most
+--     request-sendable, limit-short    so can a command that a text asks the pump for; a limit has three digits at the most
+--     line-sendable, line-limit-short  the same of a line, over-long or not
+--     asked-text       a line that is not over-long asks for what its characters ask for
 -- That a name which leads a text is its name stands in Naming (name-is) and Calling (called-is), that what is printed reads back
 -- in ReadBack.
 -- Assumes nothing.
@@ -21,17 +24,21 @@ use Rattle.base.specs.If.{if_then_else_}
 use Rattle.base.proofs.Choices.{and-left, and-right}
 use Rattle.line.specs.Characters.{isReturn, isDropped, isLower, raised, arrivalOf, canStand}
 use Rattle.line.specs.Lines.{emptyLine, withCharacter, afterArrival, afterByte, lineText}
-use Rattle.line.specs.Lines.{allStand, isSoundLine, commandIn, kept, overLong}
+use Rattle.line.specs.Lines.{allStand, isSoundLine, addressIn, commandIn, kept, overLong}
 use Rattle.line.specs.Addresses.{unaddressed}
 use Rattle.line.specs.Collected.{collect, characters, Holds}
 use Rattle.line.specs.Commands.{commandOf}
+use Rattle.line.specs.Requests.{requestOf, askedOf, askedIn}
 use Rattle.line.specs.Sendable.{Sendable}
 use Rattle.line.specs.declared.arriving.Arrival.{Arrival}
 use Rattle.line.specs.declared.arriving.Arrival.the-variants.{End, Dropped, Kept}
 use Rattle.line.specs.declared.lines.Line.{Line}
+use Rattle.words.specs.declared.commands.Command.{Command}
 use Rattle.words.specs.declared.commands.Command.the-variants as c
+use Rattle.words.specs.declared.commands.Request.the-variants.{SetLimit, Pump}
 use Rattle.line.proofs.Characters.{not-dropped, below-lower}
 use Rattle.line.proofs.Sent.{malformed, command-sendable}
+use Rattle.line.proofs.Requesting.{Holdable, request-holdable, asked-holdable}
 
 -- ---- collecting
 -- what a line under way keeps to, with the characters so far
@@ -232,3 +239,22 @@ asked-sendable l = go (l .overlong)
     go : (t : Bool) → Sendable (if t then c.Malformed else commandOf (unaddressed (lineText l)))
     go true = malformed
     go false = command-sendable (unaddressed (lineText l))
+
+-- ---- what a text asks for, of the pump or of the link   (02, 2/12)
+module _ (s : List ℕ) where
+  pub request-sendable : (command : Command) → requestOf s ≡ Pump command → Sendable command
+  request-sendable command e = subst Holdable e (request-holdable s)
+
+  pub limit-short : (n : ℕ) → requestOf s ≡ SetLimit n → n ≤ 999
+  limit-short n e = subst Holdable e (request-holdable s)
+
+module _ (l : Line) where
+  pub line-sendable : (command : Command) → askedIn l .request ≡ Pump command → Sendable command
+  line-sendable command e = subst Holdable e (asked-holdable l)
+
+  pub line-limit-short : (n : ℕ) → askedIn l .request ≡ SetLimit n → n ≤ 999
+  line-limit-short n e = subst Holdable e (asked-holdable l)
+
+  pub asked-text : l .overlong ≡ false → askedIn l ≡ askedOf (lineText l)
+  unfolding askedIn askedOf addressIn
+  asked-text o = simp o

@@ -10,6 +10,7 @@
 //   arguments   what stands behind RAT, DIR, CLD and the like
 //   functions   what stands behind FUN: a function's name and its datum
 //   commands    the command that a text asks for
+//   requests    what a text asks for with its address: SAF of the link that it came by (document 02, 2/12), all else of the pump
 mod addresses;
 mod arguments;
 mod arriving;
@@ -17,6 +18,7 @@ mod commands;
 mod functions;
 mod lines;
 mod names;
+mod requests;
 mod spelling;
 
 pub use addresses::address_of;
@@ -29,3 +31,4 @@ pub use lines::Line;
 pub use names::Name;
 pub use names::argument_of;
 pub use names::name_of;
+pub use requests::asked_of;

@@ -1,6 +1,7 @@
 // The line under way: its first 40 characters, how many they are, and whether there were more.
 ghost use mathlib.Core.Path.{_≡_};
 ghost use Rattle.line.specs.Lines.{emptyLine, withCharacter, afterByte, allStand, isSoundLine, addressIn, commandIn};
+ghost use Rattle.line.specs.Requests.{askedIn};
 ghost use Prim.Native.Nat.{min};
 use crate::addresses::address_of;
 use crate::addresses::unaddressed;
@@ -8,7 +9,10 @@ use crate::arriving::Arrival;
 use crate::arriving::arrival_of;
 use crate::arriving::can_stand;
 use crate::commands::command_of;
+use crate::requests::asked_of;
+use words::Asked;
 use words::Command;
+use words::Request;
 
 pub struct Line {
     pub bytes: [u8; 40],
@@ -101,6 +105,21 @@ impl Line {
         let bytes = self.bytes;
         let n = held(self.len);
         command_of(unaddressed(&bytes[..n]))
+    }
+
+    // The address that the line bears, and what it asks for.
+    pub fn asked_in(self) -> Asked
+        ensures { λ r. ⌜ r ≡ askedIn self ⌝ }
+    {
+        let bytes = self.bytes;
+        let n = held(self.len);
+        if self.overlong {
+            return Asked {
+                address: address_of(&bytes[..n]),
+                request: Request::Pump(Command::Malformed),
+            };
+        }
+        asked_of(&bytes[..n])
     }
 }
 

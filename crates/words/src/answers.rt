@@ -14,10 +14,11 @@ pub enum Status {
     Withdrawing,
 }
 
-// R: the pump was switched on. E: the program met something that it cannot do.
+// R: the pump was switched on. E: the program met something that it cannot do. T: the time limit of Safe mode passed.
 pub enum Alarm {
     PowerUp,
     Program,
+    TimeOut,
 }
 
 // What an answer says beside the status.
@@ -30,11 +31,15 @@ pub enum Reply {
     NotApplicable,
     // `?OOR`
     OutOfRange,
+    // `?COM`: a packet that is not good
+    Garbled,
     Number(u32),
     Rate(u32, RateUnit),
     Volume(u32, VolumeUnit),
     Direction(Direction),
     Phase(u8),
+    // Safe mode's time limit in seconds; 0 is Basic mode
+    Limit(u8),
     Function(Function),
     // infused, withdrawn
     Totals(u32, u32, VolumeUnit),

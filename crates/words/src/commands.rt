@@ -1,4 +1,4 @@
-// The commands as the pump is asked for them. Numbers are in thousandths; data may be out of range here.
+// The commands as the pump is asked for them, and what a text asks for. Numbers are in thousandths; data may be out of range here.
 use crate::functions::Function;
 use drive::Direction;
 use drive::RateUnit;
@@ -33,4 +33,18 @@ pub enum Command {
     AskDispensed,
     Clear(Direction),
     Reset,
+}
+
+// What a text asks for: SAF is asked of the link that it came by, every other command of the pump.
+pub enum Request {
+    AskLimit,
+    // seconds
+    SetLimit(u16),
+    Pump(Command),
+}
+
+// A text that was heard: the address that it bears, and what it asks for.
+pub struct Asked {
+    pub address: u8,
+    pub request: Request,
 }

@@ -3,7 +3,7 @@
 //
 //   functions   the fifteen functions, each with its number and its datum, and every question about one
 //   phases      the phase record: sound, at power-up
-//   commands    the commands with their data
+//   commands    the commands with their data, and what a text asks for: of the pump, or of the link that it came by
 //   answers     the statuses, the alarms, the replies, and what is said
 mod answers;
 mod commands;
@@ -14,7 +14,9 @@ pub use answers::Alarm;
 pub use answers::Reply;
 pub use answers::Said;
 pub use answers::Status;
+pub use commands::Asked;
 pub use commands::Command;
+pub use commands::Request;
 pub use commands::Units;
 pub use functions::Function;
 pub use phases::Phase;

@@ -77,10 +77,11 @@ module _ (r : Run) (f : Function) (n : ℕ) where
   Makes k x =
       (s : Core) (look : ℕ → Phase) → look (r .place .current) .function ≡ f → noTick (withRun s x) ≡ ticks look k (withRun s r)
 
-  hop-of : (k : ℕ) (x : Run) → k ≤ n → Makes k x → Hop r f n (record { run = x; ticks = k })
-  hop-of k x h same =
+  hop-of : (k : ℕ) (x : Run) → k ≤ n → x .mode ≡ r .mode → Makes k x → Hop r f n (record { run = x; ticks = k })
+  hop-of k x h m same =
       record {
         within = h;
+        goes-on = m;
         same =
             λ (s : Core) (look : ℕ → Phase) (e : s .run ≡ r) (g : look (r .place .current) .function ≡ f).
             same s look g ∙ ap (λ (y : Run). ticks look k (withRun s y)) (sym e);
@@ -88,7 +89,7 @@ module _ (r : Run) (f : Function) (n : ℕ) where
 
   pub hops-none : Hop r f n (record { run = r; ticks = 0 })
   unfolding ticks
-  hops-none = hop-of 0 r (omega arith) (λ s look g. refl)
+  hops-none = hop-of 0 r (omega arith) refl (λ s look g. refl)
 
   module _ (runs : isOperating r ≡ true) (at : isEntering (r .place .work) ≡ true) where
     -- the tick that enters
@@ -104,7 +105,7 @@ module _ (r : Run) (f : Function) (n : ℕ) where
 
     pub hops-jump : (k : ℕ) (x : Run) → 1 ≤ n → f ≡ Jmp k → x ≡ goTo r k → Hop r f n (record { run = x; ticks = 1 })
     unfolding ticks
-    hops-jump k x h e q = hop-of 1 x h (λ s look g. first-tick x (Jmp k) s look (g ∙ e) refl refl q)
+    hops-jump k x h e q = hop-of 1 x h (ap (λ (y : Run). y .mode) q) (λ s look g. first-tick x (Jmp k) s look (g ∙ e) refl refl q)
 
     abbrev paused : ℕ → Run
     paused t = doing (withRate r NoRate) (Pausing t)
@@ -130,5 +131,5 @@ module _ (r : Run) (f : Function) (n : ℕ) where
         → x ≡ goOn y
         → Hop r f n (record { run = x; ticks = t + 1 })
     hops-pause k t y x e d h a q =
-        hop-of (t + 1) x (omega (arith, fewer t n h))
+        hop-of (t + 1) x (omega (arith, fewer t n h)) (ap (λ (z : Run). z .mode) (q ∙ ap goOn a))
         (λ s look g. ap (λ (z : Run). noTick (withRun s z)) (q ∙ ap goOn a) ∙ makes-pause k t e d (timed t n h) s look g)

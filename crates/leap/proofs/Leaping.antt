@@ -201,6 +201,7 @@ module _
         record {
           within = omega (arith, most);
           stays = refl;
+          goes-on = refl;
           few =
               omega (
                 arith,

@@ -35,6 +35,7 @@ module _ (s : Core) (p : Phase) (n : ℕ) (x : Leapt) where
       record {
         within = omega arith;
         stays = refl;
+        goes-on = refl;
         few = omega arith;
         same = λ (look : ℕ → Phase) (e : look (s .run .place .current) ≡ p). still-ticks s p still look e n;
       }
@@ -52,6 +53,7 @@ leap-none s p n =
     record {
       within = omega arith;
       stays = refl;
+      goes-on = refl;
       few = omega arith;
       same = λ (look : ℕ → Phase) (e : look (s .run .place .current) ≡ p). refl;
     }
@@ -104,6 +106,7 @@ module _ (s : Core) (p : Phase) (left : ℕ) (runs : isOperating (s .run) ≡ tr
       record {
         within = omega arith;
         stays = refl;
+        goes-on = refl;
         few = omega arith;
         same = λ (look : ℕ → Phase) (e : look (s .run .place .current) ≡ p). pause-ticks look e k (omega arith);
       }

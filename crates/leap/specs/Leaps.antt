@@ -44,21 +44,23 @@ unfoldable pub ticks : (ℕ → Phase) → ℕ → Core → Moves
 ticks look zero s = noTick s
 ticks look (suc n) s = nextTick look (ticks look n s)
 
--- ---- a leap: so many of n ticks; whatever the other phases are, they are that many ticks one after the other. None of them beeps, or
--- leaves the phase
+-- ---- a leap: so many of n ticks; whatever the other phases are, they are that many ticks one after the other. None of them beeps,
+-- leaves the phase, or stops the pump
 abbrev pub movesOf : Leapt → Moves
 movesOf r = record { core = r .core; infused = r .infused; withdrawn = r .withdrawn; beeps = 0 }
 
 pub record Leap (s : Core) (here : Phase) (n : ℕ) (r : Leapt) : Type 0 where
   pub within : r .ticks ≤ n
   pub stays : r .core .run .place .current ≡ s .run .place .current
+  pub goes-on : r .core .run .mode ≡ s .run .mode
   pub few : r .infused + r .withdrawn ≤ 4 * r .ticks
   pub same : (look : ℕ → Phase) → look (s .run .place .current) ≡ here → movesOf r ≡ ticks look (r .ticks) s
 
--- ---- a hop: so many of n ticks, from a phase of function f, that change nothing but the program under way, whatever the rest of the core
--- and the other phases are
+-- ---- a hop: so many of n ticks, from a phase of function f, that change nothing but the program under way and do not stop it, whatever
+-- the rest of the core and the other phases are
 pub record Hop (r : Run) (f : Function) (n : ℕ) (h : Hopped) : Type 0 where
   pub within : h .ticks ≤ n
+  pub goes-on : h .run .mode ≡ r .mode
   pub same :
       (s : Core) (look : ℕ → Phase)
       → s .run ≡ r

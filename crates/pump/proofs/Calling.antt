@@ -13,29 +13,33 @@ use Rattle.base.specs.If.{if_then_else_}
 use Rattle.base.proofs.Choices.{false-true}
 use Rattle.words.specs.declared.answers.Said.{Said}
 use Rattle.words.specs.declared.answers.Said.the-variants.{Nothing}
+use Rattle.words.specs.declared.commands.Asked.{Asked}
 use Rattle.words.specs.declared.phases.Phase.{Phase}
 use Rattle.program.specs.Runs.{isOperating}
 use Rattle.program.specs.Statuses.{inHand}
 use Rattle.program.proofs.Parts.{core-clauses, run-clauses}
 use Rattle.leap.specs.Leaps.{mostTicks}
-use Rattle.line.specs.Lines.{afterByte}
-use Rattle.line.specs.declared.lines.Arrived.{Arrived}
 use Rattle.line.specs.declared.lines.Line.{Line}
+use Rattle.link.specs.Link.{isSafe, isSoundLink}
+use Rattle.link.specs.declared.Link.{Link}
 use Rattle.answer.specs.Answers.{room, lengthIn, bufferAfter}
-use Rattle.pump.specs.Calls as calls
-use Rattle.pump.specs.Calls.{Handy, pinCall, afterLine, hear, answered, received, receivedBuffer}
-use Rattle.pump.specs.Calls.{byteReport, byteBuffer}
-use Rattle.pump.specs.Device.{withLine, edge, hearLine, said}
+use Rattle.answer.specs.declared.frame.Frame.{Frame}
+use Rattle.answer.specs.declared.frame.Frame.the-variants as frame
+use Rattle.answer.specs.declared.frame.Frame.the-variants.{Packet}
+use Rattle.pump.specs.Calls.{Handy, pinCall, afterText, frameIn, answered, received, receivedBuffer, byteReport, byteBuffer}
+use Rattle.pump.specs.Device.{withLine, withLink, edge, hearText, said}
+use Rattle.pump.specs.Elapsing.{afterTicks, sentIn}
+use Rattle.pump.specs.Going.{movesIn}
 use Rattle.pump.specs.Holder.{phaseCount, phaseAt, hereOf, withDevice, edited, isSoundPump}
-use Rattle.pump.specs.Reports.{isPin, ofPin, ofByte, ofTicks, isRefused, refused, reported}
-use Rattle.pump.specs.declared.calls.Listened.{Listened}
+use Rattle.pump.specs.Reports.{isPin, ofPin, ofByte, ofTicks, isRefused, refused, reported, gone, goneBuffer}
 use Rattle.pump.specs.declared.device.Device.{Device}
 use Rattle.pump.specs.declared.device.Heard.{Heard}
 use Rattle.pump.specs.declared.holder.Pump.{Pump}
+use Rattle.pump.specs.declared.many.Going.{Going}
 use Rattle.pump.specs.declared.reports.Refusal.{Refusal}
 use Rattle.pump.specs.declared.reports.Refusal.the-variants.{Accepted, ShortBuffer, NoPin, NoLevel, Unsound, TooManyTicks}
 use Rattle.pump.specs.declared.reports.Report.{Report}
-use Rattle.pump.proofs.Kept.{pump-core}
+use Rattle.pump.proofs.Kept.{pump-core, pump-link}
 
 -- ---- what a sound pump lends to the rules
 module _ (p : Pump) (few : phaseCount p ≤ 99) (e : isSoundPump p ≡ true) where
@@ -45,9 +49,12 @@ module _ (p : Pump) (few : phaseCount p ≤ 99) (e : isSoundPump p ≡ true) whe
       let r = run-clauses (phaseCount p) (p .device .core .run) (c .under-way) in
       record { current-few = omega (arith, few, r .most); chosen-few = omega (arith, few, c .chosen-most) }
 
--- another line changes nothing of that
+-- another line, or another link, changes nothing of that
 pub handy-line : (p : Pump) (v : Device) (line : Line) → Handy p → v ≡ withLine (p .device) line → Handy (withDevice p v)
 handy-line p v line h k = rw k (record { current-few = h .current-few; chosen-few = h .chosen-few })
+
+pub handy-link : (p : Pump) (v : Device) (link : Link) → Handy p → v ≡ withLink (p .device) link → Handy (withDevice p v)
+handy-link p v link h k = rw k (record { current-few = h .current-few; chosen-few = h .chosen-few })
 
 -- the phase in hand
 hand-few : (p : Pump) → Handy p → (b : Bool) → isOperating (p .device .core .run) ≡ b → inHand (p .device .core) ≤ 100
@@ -98,20 +105,24 @@ module _ (sound : Bool) (size : ℕ) where
 
 pub ruleset bytes = (short, byte-accepted, byte-unsound)
 
-module _ (sound : Bool) (n : ℕ) where
-  pub too-many : sound ≡ true → mostTicks < n → TooManyTicks ≡ ofTicks sound n
+module _ (sound : Bool) (size n : ℕ) where
+  pub ticks-short : sound ≡ true → size < room → ShortBuffer ≡ ofTicks sound size n
   unfolding ofTicks
-  too-many e k = sym (simp (e, lt-ltb mostTicks n k))
+  ticks-short e k = sym (simp (e, lt-ltb size room k))
 
-  pub ticks-accepted : sound ≡ true → n ≤ mostTicks → Accepted ≡ ofTicks sound n
+  pub too-many : sound ≡ true → room ≤ size → mostTicks < n → TooManyTicks ≡ ofTicks sound size n
   unfolding ofTicks
-  ticks-accepted e k = sym (simp (e, le-ltb mostTicks n k))
+  too-many e h k = sym (simp (e, le-ltb size room h, lt-ltb mostTicks n k))
 
-  pub ticks-unsound : sound ≡ false → Unsound ≡ ofTicks sound n
+  pub ticks-accepted : sound ≡ true → room ≤ size → n ≤ mostTicks → Accepted ≡ ofTicks sound size n
+  unfolding ofTicks
+  ticks-accepted e h k = sym (simp (e, le-ltb size room h, le-ltb mostTicks n k))
+
+  pub ticks-unsound : sound ≡ false → Unsound ≡ ofTicks sound size n
   unfolding ofTicks
   ticks-unsound e = sym (simp e)
 
-pub ruleset many = (too-many, ticks-accepted, ticks-unsound)
+pub ruleset many = (ticks-short, too-many, ticks-accepted, ticks-unsound)
 
 -- ---- what is not refused is of a sound state
 pin-sound : (sound : Bool) (pin level : ℕ) → isRefused (ofPin sound pin level) ≡ false → sound ≡ true
@@ -124,23 +135,42 @@ unfolding ofByte
 byte-sound true size h = refl
 byte-sound false size h = false-true (sym h)
 
-pub accepted-as : (sound : Bool) (n : ℕ) → isRefused (ofTicks sound n) ≡ false → ofTicks sound n ≡ Accepted
-unfolding ofTicks
-accepted-as true n h = by (ltb mostTicks n) h
-  where
-    by : (t : Bool) → isRefused (if t then TooManyTicks else Accepted) ≡ false → (if t then TooManyTicks else Accepted) ≡ Accepted
-    by true z = false-true (sym z)
-    by false z = refl
-accepted-as false n h = false-true (sym h)
+-- ---- ticks that are not refused: the state is sound, the buffer has room, and they are not too many
+pub record Taken (sound : Bool) (size n : ℕ) : Type 0 where
+  pub accepted : ofTicks sound size n ≡ Accepted
+  pub of-sound : sound ≡ true
+  pub roomy : room ≤ size
+  pub few : n ≤ mostTicks
 
-pub many-taken : (sound : Bool) (n : ℕ) → isRefused (ofTicks sound n) ≡ false → (sound ≡ true) × (n ≤ mostTicks)
+pub many-taken : (sound : Bool) (size n : ℕ) → isRefused (ofTicks sound size n) ≡ false → Taken sound size n
 unfolding ofTicks
-many-taken true n h = (refl, by (ltb mostTicks n) refl h)
+many-taken true size n h = by (ltb size room) refl (ltb mostTicks n) refl h
   where
-    by : (t : Bool) → ltb mostTicks n ≡ t → isRefused (if t then TooManyTicks else Accepted) ≡ false → n ≤ mostTicks
-    by true k z = false-true (sym z)
-    by false k z = ltb-false mostTicks n k
-many-taken false n h = false-true (sym h)
+    by :
+        (t : Bool)
+        → ltb size room ≡ t
+        → (u : Bool)
+        → ltb mostTicks n ≡ u
+        → isRefused (if t then ShortBuffer else if u then TooManyTicks else Accepted) ≡ false
+        → Taken true size n
+    by true k u m z = false-true (sym z)
+    by false k true m z = false-true (sym z)
+    by false k false m z =
+        record { accepted = simp (k, m); of-sound = refl; roomy = ltb-false size room k; few = ltb-false mostTicks n m }
+many-taken false size n h = false-true (sym h)
+
+-- ---- a byte that is not refused finds a pump that the rules can rely on
+pub byte-ready :
+    (p : Pump) (u : Bool) (x : Refusal) (t : Bool) (size : ℕ)
+    → u ≡ isSoundPump p
+    → x ≡ ofByte u size
+    → t ≡ isRefused x
+    → phaseCount p ≤ 99
+    → t ≡ false
+    → Handy p × (isSoundLink (p .device .link) ≡ true)
+byte-ready p u x t size is k tested few h =
+    let sound = sym is ∙ byte-sound u size (ap isRefused (sym k) ∙ sym tested ∙ h) in
+    (handy p few sound, pump-link p sound)
 
 -- ---- the pin and the byte: refused, or done
 module _ (p : Pump) (u : Bool) (s : u ≡ isSoundPump p) (x : Refusal) (t : Bool) (tested : t ≡ isRefused x) (r : Report) where
@@ -170,9 +200,6 @@ module _ (p : Pump) (u : Bool) (s : u ≡ isSoundPump p) (x : Refusal) (t : Bool
     byte-tested : isRefused (ofByte (isSoundPump p) (length buffer)) ≡ t
     byte-tested = ap isRefused (sym byte-refusal) ∙ sym tested
 
-    pub byte-handy : phaseCount p ≤ 99 → t ≡ false → Handy p
-    byte-handy few h = handy p few (byte-sound (isSoundPump p) (length buffer) (byte-tested ∙ h))
-
     pub byte-refused : t ≡ true → r ≡ refused p x → r ≡ byteReport p b buffer
     unfolding byteReport
     byte-refused h q = q ∙ ap (refused p) byte-refusal ∙ sym (simp (byte-tested ∙ h))
@@ -193,72 +220,73 @@ module _ (p : Pump) (u : Bool) (s : u ≡ isSoundPump p) (x : Refusal) (t : Bool
 pub ruleset bytes-called = (byte-refused, byte-kept, byte-received, byte-written)
 
 -- ---- what is said is framed
-pub answered-report :
-    (p : Pump) (x : Said) (buffer : List ℕ) (n : ℕ) (r : Report) → n ≡ lengthIn 0 x buffer → r ≡ reported p n → r ≡ answered p x buffer
-answered-report p x buffer n r q e = e ∙ ap (reported p) q
+module _ (l : Link) (f : Frame) (k : f ≡ frameIn l) (x : Said) (buffer : List ℕ) where
+  pub answered-report :
+      (p : Pump) (n : ℕ) (r : Report) → n ≡ lengthIn f 0 x buffer → r ≡ reported p n → r ≡ answered p (frameIn l) x buffer
+  answered-report p n r q e = e ∙ ap (reported p) q ∙ ap (λ (y : Frame). answered p y x buffer) k
 
--- ---- a whole line; what is said has the status after the command
+  pub answered-buffer : (after : List ℕ) → after ≡ bufferAfter f 0 x buffer → after ≡ bufferAfter (frameIn l) 0 x buffer
+  answered-buffer after e = e ∙ ap (λ (y : Frame). bufferAfter y 0 x buffer) k
+
+pub ruleset answering = (answered-report, answered-buffer)
+
+pub frame-safe : (l : Link) (t : Bool) → t ≡ isSafe l → t ≡ true → Packet ≡ frameIn l
+frame-safe l t e k = sym (simp (sym e ∙ k))
+
+pub frame-basic : (l : Link) (t : Bool) → t ≡ isSafe l → t ≡ false → frame.Line ≡ frameIn l
+frame-basic l t e k = sym (simp (sym e ∙ k))
+
+-- ---- a whole text; what is said has the status after the command
 pub listened-as :
-    {count : ℕ} (p : Pump) (n : ℕ) (hand next current : Phase) (h : Heard) (held after : Pump) (x : Said)
+    {count : ℕ} (p : Pump) (asked : Asked) (n : ℕ) (hand next current : Phase) (h : Heard) (held after : Pump) (x : Said)
     → phaseCount p ≡ count
     → n ≡ inHand (p .device .core)
     → hand ≡ phaseAt (p .phases) n
     → next ≡ phaseAt (p .phases) (n + 1)
-    → h ≡ hearLine (p .device) hand (next .function) count
+    → h ≡ hearText (p .device) asked hand (next .function) count
     → held ≡ withDevice p (h .device)
     → after ≡ edited held n (h .edit)
     → current ≡ hereOf after
     → x ≡ said (after .device) (h .told) (current .direction)
-    → record { pump = after; said = x } ≡ afterLine p
-unfolding afterLine
-listened-as p n hand next current h held after x full a b d g k q e f = rw (f, e, q, k, g, b, d, a, full)
+    → record { pump = after; said = x } ≡ afterText p asked
+unfolding afterText
+listened-as p asked n hand next current h held after x full a b d g k q e f = rw (f, e, q, k, g, b, d, a, full)
 
 -- where nothing is said nothing is written
-silent-length : (buffer : List ℕ) → 0 ≡ lengthIn 0 Nothing buffer
+pub silent-length : (f : Frame) (buffer : List ℕ) → 0 ≡ lengthIn f 0 Nothing buffer
 unfolding lengthIn
-silent-length buffer = by (leb room (length buffer))
+silent-length f buffer = by (leb room (length buffer))
   where
     by : (t : Bool) → _≡_ {A = ℕ} 0 (if t then 0 else 0)
     by true = refl
     by false = refl
 
-silent-buffer : (buffer : List ℕ) → buffer ≡ bufferAfter 0 Nothing buffer
+pub silent-buffer : (f : Frame) (buffer : List ℕ) → buffer ≡ bufferAfter f 0 Nothing buffer
 unfolding bufferAfter
-silent-buffer buffer = by (leb room (length buffer))
+silent-buffer f buffer = by (leb room (length buffer))
   where
     by : (t : Bool) → buffer ≡ (if t then buffer else buffer)
     by true = refl
     by false = refl
 
--- ---- a byte that is received
-module _ (p : Pump) (b : ℕ) (buffer : List ℕ) (a : Arrived) (v : Device)
-    (k : a ≡ afterByte (p .device .line) b) (g : v ≡ withLine (p .device) (a .line)) where
-  held-is : withDevice p v ≡ calls.held p a
-  held-is = ap (withDevice p) g
+-- ---- ticks that are over: what they send is written
+module _ (p : Pump) (g : Going) (n : ℕ) (buffer : List ℕ) (x : Said) (told : x ≡ sentIn n (p .device) (g .core)) where
+  pub gone-as :
+      (refusal : Refusal) (size : ℕ) (v : Device) (q : Pump)
+      → size ≡ lengthIn Packet 0 x buffer
+      → v ≡ afterTicks n (p .device) (g .core)
+      → q ≡ withDevice p v
+      → record {
+        pump = q;
+        length = size;
+        infused = g .infused;
+        withdrawn = g .withdrawn;
+        beeps = g .beeps;
+        ticks = n;
+        refusal = refusal;
+        output = g .core .output;
+      } ≡ gone p (movesIn g) n refusal buffer
+  gone-as refusal size v q a b d = rw (d, b, a, told)
 
-  module _ (e : a .ended ≡ false) where
-    quiet : record { pump = withDevice p v; said = Nothing } ≡ hear p b
-    unfolding hear
-    quiet = ap (λ (x : Pump). record { pump = x; said = Nothing }) held-is ∙ sym (simp e) ∙ ap (calls.heardBy p) k
-
-    pub line-goes-on : (r : Report) → r ≡ reported (withDevice p v) 0 → r ≡ received p b buffer
-    line-goes-on r q =
-        q
-        ∙ ap (reported (withDevice p v)) (silent-length buffer)
-        ∙ ap (λ (x : Listened). answered (x .pump) (x .said) buffer) quiet
-
-    pub buffer-stays : buffer ≡ receivedBuffer p b buffer
-    buffer-stays = silent-buffer buffer ∙ ap (λ (x : Listened). bufferAfter 0 (x .said) buffer) quiet
-
-  module _ (l : Listened) (m : l ≡ afterLine (withDevice p v)) (e : a .ended ≡ true) where
-    heard : l ≡ hear p b
-    unfolding hear
-    heard = m ∙ ap afterLine held-is ∙ sym (simp e) ∙ ap (calls.heardBy p) k
-
-    pub line-ends : (r : Report) → r ≡ answered (l .pump) (l .said) buffer → r ≡ received p b buffer
-    line-ends r q = q ∙ ap (λ (x : Listened). answered (x .pump) (x .said) buffer) heard
-
-    pub buffer-written : (after : List ℕ) → after ≡ bufferAfter 0 (l .said) buffer → after ≡ receivedBuffer p b buffer
-    buffer-written after q = q ∙ ap (λ (x : Listened). bufferAfter 0 (x .said) buffer) heard
-
-pub ruleset arrivals = (line-goes-on, line-ends, buffer-stays, buffer-written)
+  pub gone-written : (after : List ℕ) → after ≡ bufferAfter Packet 0 x buffer → after ≡ goneBuffer p (movesIn g) n buffer
+  gone-written after e = e ∙ ap (λ (y : Said). bufferAfter Packet 0 y buffer) told

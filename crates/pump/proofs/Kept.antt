@@ -1,4 +1,5 @@
--- A sound pump taken apart into its phases, its core and its line, and put together again; its phases as a table; whatever their number.
+-- A sound pump taken apart into its phases, its core, its line and its link, and put together again; its phases as a table; whatever
+-- their number.
 -- Assumes nothing.
 use Prim.Native.Nat.{ℕ, zero, suc, _+_}
 use mathlib.Core.Path.{_≡_, refl, ap}
@@ -7,19 +8,19 @@ use mathlib.Core.List.{List, [], _∷_}
 use native.Mathlib.Omega.{arith}
 use lib.ListN.{length, getD, List·getD-eq-default}
 use Rattle.base.proofs.Choices.{and-left, and-right}
-use Rattle.base.proofs.Each.{and-both}
+use Rattle.base.proofs.Each.{Each, each, all-of, and-both}
 use Rattle.decimal.specs.Writable.{isWritable}
 use Rattle.words.specs.Phases.{isSoundPhase}
 use Rattle.words.specs.declared.phases.Phase.{Phase}
 use Rattle.program.specs.Sound.{Table, isSoundCore}
 use Rattle.program.specs.declared.state.Core.{Core}
 use Rattle.line.specs.Lines.{isSoundLine}
-use Rattle.pump.specs.Calls.{tickCall, ticked}
-use Rattle.pump.specs.Device.{withCore, isSoundDevice}
+use Rattle.link.specs.Link.{isSoundLink}
+use Rattle.pump.specs.Device.{withCore, isLineApart, deviceTests, isSoundDevice}
 use Rattle.pump.specs.Holder.{phaseCount, stopPhase, phaseAt, hereOf, withDevice, isSoundPhases, isSoundPump}
 use Rattle.pump.specs.declared.holder.Pump.{Pump}
 
--- ---- the three parts of a pump
+-- ---- the parts of a pump
 module _ (p : Pump) where
   abbrev held : Bool
   held = isSoundDevice (phaseCount p) (p .device) (hereOf p)
@@ -29,22 +30,31 @@ module _ (p : Pump) where
     unfolding isSoundPump
     pump-phases = and-left (isSoundPhases (phaseCount p) (p .phases)) held e
 
-    pub pump-core : isSoundCore (phaseCount p) (p .device .core) (hereOf p) ≡ true
+    pump-device : Each (deviceTests (phaseCount p) (p .device) (hereOf p))
     unfolding isSoundPump isSoundDevice
-    pump-core = and-left _ (isSoundLine (p .device .line)) (and-right (isSoundPhases (phaseCount p) (p .phases)) held e)
+    pump-device = each (deviceTests (phaseCount p) (p .device) (hereOf p)) (and-right (isSoundPhases (phaseCount p) (p .phases)) held e)
+
+    pub pump-core : isSoundCore (phaseCount p) (p .device .core) (hereOf p) ≡ true
+    pump-core = pump-device .0
 
     pub pump-line : isSoundLine (p .device .line) ≡ true
-    unfolding isSoundPump isSoundDevice
-    pump-line =
-        and-right (isSoundCore (phaseCount p) (p .device .core) (hereOf p)) _ (and-right (isSoundPhases (phaseCount p) (p .phases)) held e)
+    pump-line = pump-device .1 .0
+
+    pub pump-link : isSoundLink (p .device .link) ≡ true
+    pump-link = pump-device .1 .1 .0
+
+    pub pump-apart : isLineApart (p .device) ≡ true
+    pump-apart = pump-device .1 .1 .1 .0
 
   pub pump-sound :
       isSoundPhases (phaseCount p) (p .phases) ≡ true
       → isSoundCore (phaseCount p) (p .device .core) (hereOf p) ≡ true
       → isSoundLine (p .device .line) ≡ true
+      → isSoundLink (p .device .link) ≡ true
+      → isLineApart (p .device) ≡ true
       → isSoundPump p ≡ true
   unfolding isSoundPump isSoundDevice
-  pump-sound a b c = and-both _ _ a (and-both _ _ b c)
+  pump-sound a b c d e = and-both _ _ a (all-of (deviceTests (phaseCount p) (p .device) (hereOf p)) (b, (c, (d, (e, tt)))))
 
 -- ---- every phase is sound
 module _ (phases : ℕ) where
@@ -82,12 +92,7 @@ module _ (p : Pump) where
       → (s : Core)
       → isSoundCore (phaseCount p) s (phaseAt (p .phases) (s .run .place .current)) ≡ true
       → isSoundPump (withPumpCore p s) ≡ true
-  core-sound e s k = pump-sound (withPumpCore p s) (pump-phases p e) k (pump-line p e)
-
-  -- ---- a tick of a sound pump is what the rules give
-  pub sound-tick : isSoundPump p ≡ true → tickCall p ≡ ticked p
-  unfolding tickCall
-  sound-tick e = rw e refl
+  core-sound e s k = pump-sound (withPumpCore p s) (pump-phases p e) k (pump-line p e) (pump-link p e) (pump-apart p e)
 
   pub table-here : isSoundPump p ≡ true → Table (phaseCount p) (phaseAt (p .phases))
   table-here e = table-of (p .phases) (pump-phases p e)

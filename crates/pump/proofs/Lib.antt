@@ -2,8 +2,10 @@
 pub mod Kept
 pub mod Renewing
 pub mod Running
+pub mod Alarms
 mod Turning
 mod Phases
 mod Holding
 mod Hearing
-mod Calling
+pub mod Calling
+mod Arriving

@@ -1,33 +1,118 @@
--- Many ticks of the pump are as many of its core, and stay sound; what is known with some of them left.
+-- Many ticks of the pump are as many of its core and of its link, up to one that sends an alarm, and stay sound; what is known with some
+-- of them left.
 -- Assumes nothing.
 use Prim.Native.Nat.{ℕ, zero, suc, _+_, _-_, _*_, _≤_, _<_}
 use mathlib.Core.Path.{_≡_, refl, sym, ap, _∙_, subst}
 use mathlib.Core.Logic.{_⊎_, inl, inr}
-use mathlib.Core.Bool.{Bool, true, false}
+use mathlib.Core.Bool.{Bool, true, false, _&&_, _||_, not}
+use mathlib.Core.List.{List}
 use native.Mathlib.Nat.{zero-add}
 use native.Mathlib.Numerals.{add-one}
 use native.Mathlib.Omega.{arith}
+use lib.Dec.{leb, ltb, eqb}
+use lib.ListN.{length}
+use borrow.Author.Tests.{le-leb, le-ltb, ltb-true, ltb-false, ne-eqb}
 use Rattle.base.specs.If.{if_then_else_}
+use Rattle.base.proofs.Choices.{and-left, and-right, false-true}
+use Rattle.words.specs.declared.answers.Alarm.{Alarm}
+use Rattle.words.specs.declared.answers.Alarm.the-variants.{TimeOut}
+use Rattle.words.specs.declared.answers.Said.{Said}
+use Rattle.words.specs.declared.answers.Said.the-variants as said
 use Rattle.words.specs.declared.phases.Phase.{Phase}
+use Rattle.program.specs.Runs.{pending}
+use Rattle.program.specs.declared.state.Core.{Core}
+use Rattle.program.specs.declared.state.Pending.{Pending}
+use Rattle.program.specs.declared.state.Pending.the-variants.{NoAlarm, Raised}
+use Rattle.tick.specs.Ticks.{tick}
+use Rattle.tick.specs.declared.Moved.{Moved}
 use Rattle.leap.specs.Leaps.{mostTicks, Moves, ticks}
 use Rattle.soundness.proofs.Ticks.{kept-tick}
-use Rattle.pump.specs.Calls.{andTick, tickCall, inTurn, ticksCall}
+use Rattle.packet.specs.Packets.{packetOf}
+use Rattle.link.specs.Link.{isSafe, ticksLeft, linkTicks}
+use Rattle.link.specs.declared.Link.{Link}
+use Rattle.link.proofs.Soundness as links
+use Rattle.link.proofs.Theorems.{ticks-safe}
+use Rattle.answer.specs.Answers.{room, answerOf, lengthIn, bufferAfter}
+use Rattle.answer.specs.declared.frame.Frame.the-variants.{Packet}
+use Rattle.pump.specs.Calls.{tickAt, tickCall, tickBuffer, tickDone, andTick, oneMore, inTurn, ticksCall, ticksBuffer}
+use Rattle.pump.specs.Elapsing.{hasAlarm, isAlarmed, isDue, reach, isWatched, sentIn}
 use Rattle.pump.specs.Going.{movesIn, Ongoing, Turned}
-use Rattle.pump.specs.Holder.{phaseCount, phaseAt, isSoundPump}
-use Rattle.pump.specs.Reports.{ofTicks, isRefused, refused, unlessRefused, reported, gone}
+use Rattle.pump.specs.Holder.{phaseCount, phaseAt, withDevice, isSoundPump}
+use Rattle.pump.specs.Reports.{ofByte, ofTicks, isRefused, Outcome, refused, unlessRefused, reported, movedBy, movedBuffer}
+use Rattle.pump.specs.Reports.{gone, goneBuffer}
 use Rattle.pump.specs.declared.holder.Pump.{Pump}
 use Rattle.pump.specs.declared.many.Going.{Going}
 use Rattle.pump.specs.declared.reports.Refusal.{Refusal}
-use Rattle.pump.specs.declared.reports.Refusal.the-variants.{Accepted, Unsound}
+use Rattle.pump.specs.declared.reports.Refusal.the-variants.{Accepted, ShortBuffer, Unsound}
 use Rattle.pump.specs.declared.reports.Report.{Report}
-use Rattle.pump.proofs.Calling.{many-taken, accepted-as}
-use Rattle.pump.proofs.Kept.{withPumpCore, pump-core, table-here, core-sound, sound-tick}
+use Rattle.pump.proofs.Alarms as alarms
+use Rattle.pump.proofs.Alarms.{Quiet, resting, quiet-none, quiet-before, quiet-sent, quiet-device, next-device, next-sent, calm-before}
+use Rattle.pump.proofs.Calling.{Taken, many-taken, silent-length, silent-buffer}
+use Rattle.pump.proofs.Kept.{withPumpCore, pump-phases, pump-core, pump-line, pump-link, pump-apart, pump-sound, table-here, core-sound}
 
 abbrev look : Pump → ℕ → Phase
 look p = phaseAt (p .phases)
 
 abbrev moves : Pump → ℕ → Moves
 moves p i = ticks (look p) i (p .device .core)
+
+-- ---- a tick of a sound pump, with room for what it sends, is what the rules give
+module _ (p : Pump) (buffer : List ℕ) (sound : isSoundPump p ≡ true) (roomy : room ≤ length buffer) where
+  pub sound-tick : tickCall p buffer ≡ movedBy p (tickAt p) buffer
+  unfolding tickCall ofByte
+  sound-tick = simp (sound, le-ltb (length buffer) room roomy)
+
+  pub sound-tick-buffer : tickBuffer p buffer ≡ movedBuffer p (tickAt p) buffer
+  unfolding tickBuffer ofByte
+  sound-tick-buffer = simp (sound, le-ltb (length buffer) room roomy)
+
+-- ---- what some ticks come to, and what they come to where none sent an alarm
+abbrev goneOf : Pump → ℕ → Refusal → List ℕ → Outcome
+goneOf p i refusal buffer =
+    record { report = gone p (moves p i) i refusal buffer; buffer = goneBuffer p (moves p i) i buffer }
+
+abbrev pub rested : Pump → ℕ → Pump
+rested p i = withDevice p (resting (look p) (p .device) i)
+
+abbrev quietly : Pump → ℕ → Refusal → List ℕ → Outcome
+quietly p i refusal buffer =
+    record {
+      report =
+          record {
+            pump = rested p i;
+            length = 0;
+            infused = moves p i .infused;
+            withdrawn = moves p i .withdrawn;
+            beeps = moves p i .beeps;
+            ticks = i;
+            refusal = refusal;
+            output = moves p i .core .output;
+          };
+      buffer = buffer;
+    }
+
+abbrev QuietFor : Pump → ℕ → Type 0
+QuietFor p i = Quiet (look p) (p .device) i
+
+quiet-gone : (p : Pump) (i : ℕ) (refusal : Refusal) (buffer : List ℕ) → QuietFor p i → goneOf p i refusal buffer ≡ quietly p i refusal buffer
+quiet-gone p i refusal buffer q =
+    λ k.
+    record {
+      report =
+          record {
+            pump = withDevice p (quiet-device (look p) (p .device) i q k);
+            length =
+                (ap (λ (x : Said). lengthIn Packet 0 x buffer) (quiet-sent (look p) (p .device) i q) ∙ sym (silent-length Packet buffer)) k;
+            infused = moves p i .infused;
+            withdrawn = moves p i .withdrawn;
+            beeps = moves p i .beeps;
+            ticks = i;
+            refusal = refusal;
+            output = moves p i .core .output;
+          };
+      buffer =
+          (ap (λ (x : Said). bufferAfter Packet 0 x buffer) (quiet-sent (look p) (p .device) i q) ∙ sym (silent-buffer Packet buffer)) k;
+    }
 
 module _ (p : Pump) (sound : isSoundPump p ≡ true) where
   -- a tick keeps a sound state sound
@@ -39,14 +124,83 @@ module _ (p : Pump) (sound : isSoundPump p ≡ true) where
       (kept-tick (phaseCount p) (look p) (table-here p sound) (moves p i .core)
       (pump-core (withPumpCore p (moves p i .core)) (ticks-sound i)))
 
-  -- so many calls of a tick are so many ticks of the core
-  pub in-turn : (i : ℕ) → gone p (moves p i) i Accepted ≡ inTurn i p
-  unfolding inTurn ticks
-  in-turn zero = refl
-  in-turn (suc i) =
-      ap (λ (n : ℕ). gone p (moves p (suc i)) n Accepted) (sym (add-one i))
-      ∙ ap (andTick (gone p (moves p i) i Accepted)) (sym (sound-tick (withPumpCore p (moves p i .core)) (ticks-sound i)))
-      ∙ ap (λ (r : Report). andTick r (tickCall (r .pump))) (in-turn i)
+  pub rested-sound : (i : ℕ) → isSoundPump (rested p i) ≡ true
+  rested-sound i =
+      pump-sound (rested p i) (pump-phases p sound) (pump-core (withPumpCore p (moves p i .core)) (ticks-sound i)) (pump-line p sound)
+      (links.ticks-sound i (p .device .link) (pump-link p sound))
+      (ap (λ (t : Bool). not t || eqb (p .device .line .len) 0) (ticks-safe i (p .device .link)) ∙ pump-apart p sound)
+
+  module _ (buffer : List ℕ) (roomy : room ≤ length buffer) where
+    -- one tick behind some that sent nothing
+    one-more : (i : ℕ) → QuietFor p i → oneMore (quietly p i Accepted buffer) ≡ goneOf p (suc i) Accepted buffer
+    unfolding ticks
+    one-more i q = ap (andTick (quietly p i Accepted buffer)) taken ∙ sums
+      where
+        m : Moved
+        m = tick (moves p i .core) (look p (moves p i .core .run .place .current))
+
+        taken :
+            tickDone (rested p i) buffer
+            ≡ record { report = movedBy (rested p i) m buffer; buffer = movedBuffer (rested p i) m buffer }
+        taken =
+            λ k.
+            record {
+              report = sound-tick (rested p i) buffer (rested-sound i) roomy k;
+              buffer = sound-tick-buffer (rested p i) buffer (rested-sound i) roomy k;
+            }
+
+        sums :
+            andTick (quietly p i Accepted buffer)
+            (record { report = movedBy (rested p i) m buffer; buffer = movedBuffer (rested p i) m buffer })
+            ≡ goneOf p (suc i) Accepted buffer
+        sums =
+            λ k.
+            record {
+              report =
+                  record {
+                    pump = withDevice p (next-device (look p) (p .device) i q (m .core) k);
+                    length = lengthIn Packet 0 (next-sent (look p) (p .device) i q (m .core) k) buffer;
+                    infused = moves p i .infused + m .infused;
+                    withdrawn = moves p i .withdrawn + m .withdrawn;
+                    beeps = moves p i .beeps + (if m .beep then 1 else 0);
+                    ticks = add-one i k;
+                    refusal = Accepted;
+                    output = m .core .output;
+                  };
+              buffer = bufferAfter Packet 0 (next-sent (look p) (p .device) i q (m .core) k) buffer;
+            }
+
+    -- so many calls of a tick are so many ticks of the core and of the link
+    in-turn : (i : ℕ) → QuietFor p i → inTurn (suc i) p buffer ≡ goneOf p (suc i) Accepted buffer
+    unfolding inTurn ticks linkTicks
+    in-turn zero q = one-more zero q
+    in-turn (suc i) q =
+        ap oneMore (in-turn i (quiet-before (look p) (p .device) i q) ∙ quiet-gone p (suc i) Accepted buffer q) ∙ one-more (suc i) q
+
+    pub ran-in-turn : (i : ℕ) → (0 < i → QuietFor p (i - 1)) → inTurn i p buffer ≡ goneOf p i Accepted buffer
+    unfolding inTurn ticks linkTicks
+    ran-in-turn zero q = sym (quiet-gone p 0 Accepted buffer (quiet-none (look p) (p .device)))
+    ran-in-turn (suc i) q =
+        let e : suc i - 1 ≡ i = omega arith in
+        in-turn i (subst (QuietFor p) e (q (omega arith)))
+
+  -- behind a tick that sent an alarm there is none
+  pub no-more :
+      (buffer : List ℕ) (i j : ℕ)
+      → eqb (inTurn i p buffer .report .length) 0 ≡ false
+      → inTurn (i + j) p buffer ≡ inTurn i p buffer
+  unfolding inTurn
+  no-more buffer i zero h = let e : i + 0 ≡ i = omega arith in ap (λ (n : ℕ). inTurn n p buffer) e
+  no-more buffer i (suc j) h =
+      let e : i + suc j ≡ suc (i + j) = omega arith in
+      ap (λ (n : ℕ). inTurn n p buffer) e ∙ ap oneMore (no-more buffer i j h) ∙ simp h
+
+-- an alarm has some bytes
+alarm-written : (a : Alarm) (buffer : List ℕ) → room ≤ length buffer → eqb (lengthIn Packet 0 (said.Alarm a) buffer) 0 ≡ false
+unfolding lengthIn packetOf
+alarm-written a buffer roomy =
+    let told : lengthIn Packet 0 (said.Alarm a) buffer ≡ length (answerOf Packet 0 (said.Alarm a)) = simp (le-leb room (length buffer) roomy) in
+    ap (λ (n : ℕ). eqb n 0) told ∙ ne-eqb (length (answerOf Packet 0 (said.Alarm a))) 0 (λ e. omega arith)
 
 -- ---- what is known with so many of n ticks left, and the phase in hand; a tick gives at most 255 steps in a direction
 pub record Ran (p : Pump) (n : ℕ) (g : Going) (here : Phase) : Type 0 where
@@ -74,6 +228,26 @@ ran-none p n g here e h =
       withdrawn-few = omega arith;
       beeps-few = omega arith;
     })
+
+-- ---- no alarm is pending that would be sent: at the start, and where the code has looked
+pub calm-none :
+    (p : Pump) (n : ℕ) (g : Going)
+    → g ≡ record { core = p .device .core; left = n; infused = 0; withdrawn = 0; beeps = 0 }
+    → isWatched (p .device) ≡ true
+    → pending (g .core .run) ≡ NoAlarm
+calm-none p n g e w =
+    ap (λ (x : Going). pending (x .core .run)) e
+    ∙ alarms.not-raised (pending (p .device .core .run)) (and-right (isSafe (p .device .link)) (not (isAlarmed (p .device .core))) w)
+
+pub calm-on :
+    (p : Pump) (s : Core) (watched alarmed : Bool)
+    → watched ≡ isWatched (p .device)
+    → alarmed ≡ isAlarmed s
+    → (watched && alarmed) ≡ false
+    → isWatched (p .device) ≡ true
+    → pending (s .run) ≡ NoAlarm
+calm-on p s watched alarmed e k h w =
+    alarms.not-raised (pending (s .run)) (ap not (sym k ∙ ap (λ (t : Bool). t && alarmed) (sym w ∙ sym e) ∙ h))
 
 module _ (p : Pump) (n : ℕ) (g : Going) (here : Phase) (ran : Ran p n g here) where
   -- some are left: a turn may rely on this
@@ -108,65 +282,297 @@ module _ (p : Pump) (n : ℕ) (g : Going) (here : Phase) (ran : Ran p n g here) 
         beeps-few = omega (arith, t .fewer, t .beeps-few, ran .inside, ran .beeps-few);
       }
 
--- ---- what is refused runs no tick, and what is not runs all
-module _ (p : Pump) (n done : ℕ) (sound t : Bool) (refusal : Refusal) (is : sound ≡ isSoundPump p) (k : refusal ≡ ofTicks sound n)
-    (tested : t ≡ isRefused refusal) where
-  refused-as : isRefused (ofTicks (isSoundPump p) n) ≡ t
-  refused-as = ap (λ (b : Bool). isRefused (ofTicks b n)) (sym is) ∙ ap isRefused (sym k) ∙ sym tested
+-- ---- how far the ticks go
+pub reach-few : (n : ℕ) (l : Link) → reach n l ≤ n
+reach-few n l = go (ltb 0 (ticksLeft l) && ltb (ticksLeft l) n) refl
+  where
+    go : (t : Bool) → (ltb 0 (ticksLeft l) && ltb (ticksLeft l) n) ≡ t → (if t then ticksLeft l else n) ≤ n
+    go true e = let z = ltb-true (ticksLeft l) n (and-right (ltb 0 (ticksLeft l)) (ltb (ticksLeft l) n) e) in omega arith
+    go false e = omega arith
 
-  refusal-is : refusal ≡ ofTicks (isSoundPump p) n
-  refusal-is = k ∙ ap (λ (b : Bool). ofTicks b n) is
-
-  -- where some are run the state is sound, and they are not too many
-  pub allowed : ((t ≡ true) × (done ≡ 0)) ⊎ ((t ≡ false) × (done ≡ n)) → 0 < done → (isSoundPump p ≡ true) × (done ≤ mostTicks)
-  allowed (inl w) some = absurd (omega (arith, w .1))
-  allowed (inr w) some = let m = many-taken (isSoundPump p) n (refused-as ∙ w .0) in (m .0, omega (arith, m .1, w .1))
-
-  -- none is left: the report
-  module _ (g : Going) (here : Phase) (ran : Ran p done g here) (over : g .left ≤ 0) where
-    ran-all : movesIn g ≡ moves p done
-    ran-all = let e : done - g .left ≡ done = omega arith in ran .same ∙ ap (moves p) e
-
-    pub told : ((t ≡ true) × (done ≡ 0)) ⊎ ((t ≡ false) × (done ≡ n)) → gone p (movesIn g) done refusal ≡ ticksCall p n
-    unfolding ticksCall ticks
-    told (inl w) =
-        ap (λ (x : Moves). gone p x done refusal) (ran-all ∙ ap (moves p) (w .1))
-        ∙ ap (λ (x : ℕ). gone p (moves p 0) x refusal) (w .1)
-        ∙ ap (gone p (moves p 0) 0) refusal-is
-        ∙ sym (simp (refused-as ∙ w .0))
-    told (inr w) =
-        ap (λ (x : Moves). gone p x done refusal) ran-all
-        ∙ ap (λ (x : ℕ). gone p (moves p x) x refusal) (w .1)
-        ∙ ap (gone p (moves p n) n) (refusal-is ∙ accepted-as (isSoundPump p) n (refused-as ∙ w .0))
-        ∙ in-turn p (many-taken (isSoundPump p) n (refused-as ∙ w .0) .0) n
-        ∙ sym (simp (refused-as ∙ w .0))
-
--- ---- one tick is a call of one
-sums : (p : Pump) (t : Report) → andTick (reported p 0) t ≡ t
-sums p t =
-    λ i.
-    record {
-      pump = t .pump;
-      length = t .length;
-      infused = zero-add (t .infused) i;
-      withdrawn = zero-add (t .withdrawn) i;
-      beeps = zero-add (t .beeps) i;
-      ticks = zero-add (t .ticks) i;
-      refusal = t .refusal;
-      output = t .output;
-    }
-
-unsound-tick : (p : Pump) → isSoundPump p ≡ false → tickCall p ≡ refused p Unsound
-unfolding tickCall
-unsound-tick p e = rw e refl
-
-pub one-tick : (p : Pump) → ticksCall p 1 ≡ tickCall p
-unfolding ticksCall ofTicks inTurn
-one-tick p = go (isSoundPump p) refl
+-- to the limit, or all of them short of it
+reached : (n : ℕ) (l : Link)
+    → ((0 < ticksLeft l) × (reach n l ≡ ticksLeft l)) ⊎ ((reach n l ≡ n) × (0 < ticksLeft l → n ≤ ticksLeft l))
+reached n l = go (ltb 0 (ticksLeft l)) refl (ltb (ticksLeft l) n) refl
   where
     go :
-        (b : Bool)
-        → isSoundPump p ≡ b
-        → unlessRefused p (if b then Accepted else Unsound) (andTick (reported p 0) (tickCall p)) ≡ tickCall p
-    go true e = sums p (tickCall p)
-    go false e = sym (unsound-tick p e)
+        (t : Bool)
+        → ltb 0 (ticksLeft l) ≡ t
+        → (u : Bool)
+        → ltb (ticksLeft l) n ≡ u
+        → ((0 < ticksLeft l) × ((if t && u then ticksLeft l else n) ≡ ticksLeft l))
+        ⊎ (((if t && u then ticksLeft l else n) ≡ n) × (0 < ticksLeft l → n ≤ ticksLeft l))
+    go true e true f = inl (ltb-true 0 (ticksLeft l) e, refl)
+    go true e false f = inr (refl, λ h. ltb-false (ticksLeft l) n f)
+    go false e u f = inr (refl, λ h. let z = ltb-false 0 (ticksLeft l) e in omega arith)
+
+reach-most : (n : ℕ) (l : Link) → 0 < ticksLeft l → reach n l ≤ ticksLeft l
+reach-most n l h = go (reached n l)
+  where
+    go : ((0 < ticksLeft l) × (reach n l ≡ ticksLeft l)) ⊎ ((reach n l ≡ n) × (0 < ticksLeft l → n ≤ ticksLeft l)) → reach n l ≤ ticksLeft l
+    go (inl w) = omega (arith, w .1)
+    go (inr w) = let z = w .1 h in omega (arith, w .0)
+
+-- ---- what is known when the ticks are over: they are all, or the last one sent an alarm; and none before it did
+pub record Over (p : Pump) (n done : ℕ) : Type 0 where
+  pub within : done ≤ n
+  pub before : 0 < done → QuietFor p (done - 1)
+  pub ends : (done ≡ n) ⊎ ((a : Alarm) × (sentIn done (p .device) (moves p done .core) ≡ said.Alarm a))
+
+module _ (p : Pump) (n : ℕ) (g : Going) (here : Phase) (ran : Ran p (reach n (p .device .link)) g here)
+    (calm : isWatched (p .device) ≡ true → pending (g .core .run) ≡ NoAlarm) where
+  abbrev span : ℕ
+  span = reach n (p .device .link)
+
+  calm-at : isWatched (p .device) ≡ true → pending (moves p (span - g .left) .core .run) ≡ NoAlarm
+  calm-at w = sym (ap (λ (x : Moves). pending (x .core .run)) (ran .same)) ∙ calm w
+
+  -- none is left
+  pub over-all : g .left ≤ 0 → Over p n span
+  over-all none =
+      record {
+        within = reach-few n (p .device .link);
+        before =
+            λ some.
+            record {
+              calm =
+                  λ w.
+                  let e : span - g .left ≡ suc (span - 1) = omega arith in
+                  calm-before (look p) (p .device .core) (span - 1) (subst (λ i. pending (moves p i .core .run) ≡ NoAlarm) e (calm-at w));
+              early = λ h. let z = reach-most n (p .device .link) h in omega arith;
+            };
+        ends = go (reached n (p .device .link));
+      }
+    where
+      go : ((0 < ticksLeft (p .device .link)) × (span ≡ ticksLeft (p .device .link)))
+          ⊎ ((span ≡ n) × (0 < ticksLeft (p .device .link) → n ≤ ticksLeft (p .device .link)))
+          → (span ≡ n) ⊎ ((a : Alarm) × (sentIn span (p .device) (moves p span .core) ≡ said.Alarm a))
+      go (inr w) = inl (w .0)
+      go (inl w) =
+          let due : isDue span (p .device .link) ≡ true =
+          alarms.due-at span (ticksLeft (p .device .link)) (omega (arith, w .0, w .1)) (w .1) in
+          inr (TimeOut, alarms.due-sent (p .device) span (moves p span .core) (alarms.timer-safe (p .device .link) (w .0)) due)
+
+  -- an alarm of the program ended them
+  pub over-alarm :
+      (r : Going) → Turned g here r → isWatched (p .device) ≡ true → isAlarmed (r .core) ≡ true → movesIn r ≡ moves p (span - r .left)
+      → Over p n (span - r .left)
+  over-alarm r t w alarmed same =
+      record {
+        within = let z = reach-few n (p .device .link) in omega arith;
+        before =
+            λ some.
+            record {
+              calm =
+                  λ v.
+                  let e : (span - g .left) + (g .left - r .left) - 1 ≡ span - r .left - 1 = omega (arith, t .fewer, ran .inside) in
+                  subst (λ i. pending (moves p i .core .run) ≡ NoAlarm) e
+                  (t .calm (look p) (p .device .core) (span - g .left) (ran .in-hand) (ran .same) (calm v));
+              early = λ h. let z = reach-most n (p .device .link) h in omega arith;
+            };
+        ends = inr (go (pending (r .core .run)) refl (isDue (span - r .left) (p .device .link)) refl);
+      }
+    where
+      safe : isSafe (p .device .link) ≡ true
+      safe = and-left (isSafe (p .device .link)) (not (isAlarmed (p .device .core))) w
+
+      none : pending (p .device .core .run) ≡ NoAlarm
+      none = alarms.not-raised (pending (p .device .core .run)) (and-right (isSafe (p .device .link)) (not (isAlarmed (p .device .core))) w)
+
+      at-end : pending (moves p (span - r .left) .core .run) ≡ pending (r .core .run)
+      at-end = sym (ap (λ (x : Moves). pending (x .core .run)) same)
+
+      go :
+          (x : Pending)
+          → pending (r .core .run) ≡ x
+          → (u : Bool)
+          → isDue (span - r .left) (p .device .link) ≡ u
+          → (a : Alarm) × (sentIn (span - r .left) (p .device) (moves p (span - r .left) .core) ≡ said.Alarm a)
+      go NoAlarm e u d = false-true (sym (ap hasAlarm e) ∙ alarmed)
+      go (Raised a) e true d = (TimeOut, alarms.due-sent (p .device) (span - r .left) (moves p (span - r .left) .core) safe d)
+      go (Raised a) e false d =
+          (a, alarms.new-sent (p .device) (span - r .left) (moves p (span - r .left) .core) safe a d none (at-end ∙ e))
+
+-- ---- what is refused runs no tick, and what is not runs all, or up to an alarm
+module _ (p : Pump) (buffer : List ℕ) (n span : ℕ) (sound t : Bool) (refusal : Refusal) (is : sound ≡ isSoundPump p)
+    (k : refusal ≡ ofTicks sound (length buffer) n) (tested : t ≡ isRefused refusal) where
+  refused-as : isRefused (ofTicks (isSoundPump p) (length buffer) n) ≡ t
+  refused-as = ap (λ (b : Bool). isRefused (ofTicks b (length buffer) n)) (sym is) ∙ ap isRefused (sym k) ∙ sym tested
+
+  refusal-is : refusal ≡ ofTicks (isSoundPump p) (length buffer) n
+  refusal-is = k ∙ ap (λ (b : Bool). ofTicks b (length buffer) n) is
+
+  -- where some are run the state is sound, and they are not too many
+  pub allowed :
+      ((t ≡ true) × (span ≡ 0)) ⊎ ((t ≡ false) × (span ≡ reach n (p .device .link)))
+      → 0 < span
+      → (isSoundPump p ≡ true) × (span ≤ mostTicks)
+  allowed (inl w) some = absurd (omega (arith, w .1))
+  allowed (inr w) some =
+      let m = many-taken (isSoundPump p) (length buffer) n (refused-as ∙ w .0) in
+      let z = reach-few n (p .device .link) in
+      (m .of-sound, omega (arith, m .few, w .1))
+
+  abbrev ticksDone : Outcome
+  ticksDone = record { report = ticksCall p n buffer; buffer = ticksBuffer p n buffer }
+
+  pub none-done : t ≡ true → goneOf p 0 refusal buffer ≡ ticksDone
+  unfolding ticksCall ticksBuffer ticks linkTicks
+  none-done w =
+      quiet-gone p 0 refusal buffer (quiet-none (look p) (p .device))
+      ∙ ap (λ (x : Refusal). record { report = refused p x; buffer = buffer }) refusal-is
+      ∙ sym (simp (refused-as ∙ w))
+
+  pub all-done : t ≡ false → (done : ℕ) → Over p n done → goneOf p done refusal buffer ≡ ticksDone
+  unfolding ticksCall ticksBuffer
+  all-done w done over =
+      ap (λ (x : Refusal). goneOf p done x buffer) (refusal-is ∙ m .accepted) ∙ sym turned ∙ go (over .ends) ∙ sym (simp (refused-as ∙ w))
+    where
+      m : Taken (isSoundPump p) (length buffer) n
+      m = many-taken (isSoundPump p) (length buffer) n (refused-as ∙ w)
+
+      turned : inTurn done p buffer ≡ goneOf p done Accepted buffer
+      turned = ran-in-turn p (m .of-sound) buffer (m .roomy) done (over .before)
+
+      go : (done ≡ n) ⊎ ((a : Alarm) × (sentIn done (p .device) (moves p done .core) ≡ said.Alarm a)) → inTurn done p buffer ≡ inTurn n p buffer
+      go (inl e) = ap (λ (i : ℕ). inTurn i p buffer) e
+      go (inr e) =
+          let count : done + (n - done) ≡ n = omega (arith, over .within) in
+          let some : eqb (inTurn done p buffer .report .length) 0 ≡ false =
+          ap (λ (o : Outcome). eqb (o .report .length) 0) turned
+          ∙ ap (λ (x : Said). eqb (lengthIn Packet 0 x buffer) 0) (e .1)
+          ∙ alarm-written (e .0) buffer (m .roomy) in
+          sym (no-more p (m .of-sound) buffer done (n - done) some) ∙ ap (λ (i : ℕ). inTurn i p buffer) count
+
+-- ---- how a run of turns stops: none is left, or the last turn raised an alarm that is sent
+pub data Stops (p : Pump) (g : Going) (here : Phase) : Going → Type 0 where
+  ran-out : g .left ≤ 0 → Stops p g here g
+  alarmed :
+      (r : Going)
+      → 0 < g .left
+      → Turned g here r
+      → isWatched (p .device) ≡ true
+      → isAlarmed (r .core) ≡ true
+      → Stops p g here r
+
+pub stopped-at : (p : Pump) (g : Going) (here : Phase) (e : Going) → e ≡ g → g .left ≤ 0 → Stops p g here e
+stopped-at p g here e k h = subst (Stops p g here) (sym k) (ran-out h)
+
+pub stopped-by :
+    (p : Pump) (g : Going) (here : Phase) (e r : Going) (watched alarm : Bool)
+    → e ≡ r
+    → 0 < g .left
+    → Turned g here r
+    → watched ≡ isWatched (p .device)
+    → alarm ≡ isAlarmed (r .core)
+    → (watched && alarm) ≡ true
+    → Stops p g here e
+stopped-by p g here e r watched alarm k h t w a both =
+    subst (Stops p g here) (sym k)
+    (alarmed r h t (sym w ∙ and-left watched alarm both) (sym a ∙ and-right watched alarm both))
+
+pub stop-left : (p : Pump) (span : ℕ) (g : Going) (here : Phase) → Ran p span g here → (e : Going) → Stops p g here e → e .left ≤ span
+stop-left p span g here ran e (ran-out h) = ran .inside
+stop-left p span g here ran e (alarmed r h t w a) = omega (arith, t .fewer, ran .inside)
+
+stop-moves :
+    (p : Pump) (span : ℕ) (g : Going) (here : Phase) → Ran p span g here → (e : Going) → Stops p g here e → movesIn e ≡ moves p (span - e .left)
+stop-moves p span g here ran e (ran-out h) = ran .same
+stop-moves p span g here ran e (alarmed r h t w a) =
+    let count : (span - g .left) + (g .left - r .left) ≡ span - r .left = omega (arith, t .fewer, ran .inside) in
+    t .same (look p) (p .device .core) (span - g .left) (ran .in-hand) (ran .same) ∙ ap (moves p) count
+
+stop-over :
+    (p : Pump) (n : ℕ) (g : Going) (here : Phase)
+    → Ran p (reach n (p .device .link)) g here
+    → (isWatched (p .device) ≡ true → pending (g .core .run) ≡ NoAlarm)
+    → (e : Going)
+    → Stops p g here e
+    → Over p n (reach n (p .device .link) - e .left)
+stop-over p n g here ran calm e (ran-out h) =
+    let all : reach n (p .device .link) ≡ reach n (p .device .link) - g .left = omega arith in
+    subst (Over p n) all (over-all p n g here ran calm h)
+stop-over p n g here ran calm e (alarmed r h t w a) =
+    over-alarm p n g here ran calm r t w a (stop-moves p (reach n (p .device .link)) g here ran r (alarmed r h t w a))
+
+module _ (p : Pump) (buffer : List ℕ) (n span : ℕ) (sound t : Bool) (refusal : Refusal) (is : sound ≡ isSoundPump p)
+    (k : refusal ≡ ofTicks sound (length buffer) n) (tested : t ≡ isRefused refusal)
+    (g : Going) (here : Phase) (ran : Ran p span g here) (calm : isWatched (p .device) ≡ true → pending (g .core .run) ≡ NoAlarm)
+    (e : Going) (stops : Stops p g here e) where
+  abbrev told : Outcome
+  told =
+      record { report = gone p (movesIn e) (span - e .left) refusal buffer; buffer = goneBuffer p (movesIn e) (span - e .left) buffer }
+
+  as-moved : told ≡ goneOf p (span - e .left) refusal buffer
+  as-moved =
+      ap
+      (λ (x : Moves).
+      record { report = gone p x (span - e .left) refusal buffer; buffer = goneBuffer p x (span - e .left) buffer })
+      (stop-moves p span g here ran e stops)
+
+  pub finished :
+      ((t ≡ true) × (span ≡ 0)) ⊎ ((t ≡ false) × (span ≡ reach n (p .device .link)))
+      → told ≡ record { report = ticksCall p n buffer; buffer = ticksBuffer p n buffer }
+  finished (inl w) =
+      let none : span - e .left ≡ 0 = omega (arith, w .1) in
+      as-moved ∙ ap (λ (i : ℕ). goneOf p i refusal buffer) none ∙ none-done p buffer n span sound t refusal is k tested (w .0)
+  finished (inr w) =
+      let over : Over p n (span - e .left) =
+      subst (λ (x : ℕ). Over p n (x - e .left)) (sym (w .1))
+      (stop-over p n g here (subst (λ (x : ℕ). Ran p x g here) (w .1) ran) calm e stops) in
+      as-moved ∙ all-done p buffer n span sound t refusal is k tested (w .0) (span - e .left) over
+
+-- ---- one tick is a call of one
+one-sum : (p : Pump) (buffer : List ℕ) (t : Outcome) → andTick (record { report = reported p 0; buffer = buffer }) t ≡ t
+one-sum p buffer t =
+    λ i.
+    record {
+      report =
+          record {
+            pump = t .report .pump;
+            length = t .report .length;
+            infused = zero-add (t .report .infused) i;
+            withdrawn = zero-add (t .report .withdrawn) i;
+            beeps = zero-add (t .report .beeps) i;
+            ticks = zero-add (t .report .ticks) i;
+            refusal = t .report .refusal;
+            output = t .report .output;
+          };
+      buffer = t .buffer;
+    }
+
+one-refusal : (sound : Bool) (size : ℕ) → ofTicks sound size 1 ≡ ofByte sound size
+unfolding ofTicks ofByte
+one-refusal sound size = refl
+
+one-done : (p : Pump) (buffer : List ℕ) → inTurn 1 p buffer ≡ tickDone p buffer
+unfolding inTurn
+one-done p buffer = one-sum p buffer (tickDone p buffer)
+
+-- a refused tick is told by both calls alike
+pub one-tick : (p : Pump) (buffer : List ℕ) → ticksCall p 1 buffer ≡ tickCall p buffer
+unfolding ticksCall tickCall
+one-tick p buffer =
+    ap (λ (x : Refusal). unlessRefused p x (inTurn 1 p buffer .report)) (one-refusal (isSoundPump p) (length buffer))
+    ∙ ap (λ (o : Outcome). unlessRefused p (ofByte (isSoundPump p) (length buffer)) (o .report)) (one-done p buffer)
+    ∙ go (isRefused (ofByte (isSoundPump p) (length buffer)))
+  where
+    go : (t : Bool)
+        → (if t
+        then refused p (ofByte (isSoundPump p) (length buffer))
+        else (if t then refused p (ofByte (isSoundPump p) (length buffer)) else movedBy p (tickAt p) buffer))
+        ≡ (if t then refused p (ofByte (isSoundPump p) (length buffer)) else movedBy p (tickAt p) buffer)
+    go true = refl
+    go false = refl
+
+pub one-tick-buffer : (p : Pump) (buffer : List ℕ) → ticksBuffer p 1 buffer ≡ tickBuffer p buffer
+unfolding ticksBuffer tickBuffer
+one-tick-buffer p buffer =
+    ap (λ (x : Refusal). if isRefused x then buffer else inTurn 1 p buffer .buffer) (one-refusal (isSoundPump p) (length buffer))
+    ∙ ap (λ (o : Outcome). if isRefused (ofByte (isSoundPump p) (length buffer)) then buffer else o .buffer) (one-done p buffer)
+    ∙ go (isRefused (ofByte (isSoundPump p) (length buffer)))
+  where
+    go : (t : Bool)
+        → (if t then buffer else (if t then buffer else movedBuffer p (tickAt p) buffer)) ≡ (if t then buffer else movedBuffer p (tickAt p) buffer)
+    go true = refl
+    go false = refl

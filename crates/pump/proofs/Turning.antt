@@ -7,6 +7,7 @@ use native.Mathlib.Omega.{arith}
 use Rattle.base.specs.If.{if_then_else_}
 use Rattle.words.specs.declared.phases.Phase.{Phase}
 use Rattle.program.specs.Cores.{withRun}
+use Rattle.program.specs.Runs.{pending, pendingBy}
 use Rattle.program.specs.Sound.{Table}
 use Rattle.program.specs.declared.state.Core.{Core}
 use Rattle.tick.specs.Ticks.{Ready, tick}
@@ -20,6 +21,7 @@ use Rattle.soundness.proofs.Ticks.{kept-tick}
 use Rattle.tick.proofs.Readiness.{ready-current}
 use Rattle.pump.specs.Going.{movesIn, Ongoing, Turned}
 use Rattle.pump.specs.declared.many.Going.{Going}
+use Rattle.pump.proofs.Alarms.{calm-before}
 
 -- ---- some ticks, and more from where they ended
 abbrev plus : Moves → Moves → Moves
@@ -111,6 +113,15 @@ module _ (g : Going) (here : Phase) (on : Ongoing g here) where
       record {
         fewer = omega (arith, k .within);
         same = same;
+        calm =
+            λ look s i there e none.
+            let n = i + (g .left - (g .left - h .ticks)) in
+            let count : suc (n - 1) ≡ n = omega (arith, k .within) in
+            calm-before look s (n - 1)
+            (ap (λ (x : ℕ). pending (ticks look x s .core .run)) count
+            ∙ sym (ap (λ (x : Moves). pending (x .core .run)) (same look s i there e))
+            ∙ ap pendingBy (k .goes-on)
+            ∙ none);
         infused-few = omega arith;
         withdrawn-few = omega arith;
         beeps-few = omega arith;
@@ -162,6 +173,15 @@ module _ (g : Going) (here : Phase) (on : Ongoing g here) where
         record {
           fewer = omega (arith, on .some, leaps .within);
           same = same;
+          calm =
+              λ look s i there e none.
+              let count : i + (g .left - (g .left - l .ticks - 1)) - 1 ≡ i + l .ticks = omega (arith, on .some, leaps .within) in
+              ap (λ (x : ℕ). pending (ticks look x s .core .run)) count
+              ∙ ap (λ (x : Moves). pending (x .core .run)) (ticks-on look i (l .ticks) s)
+              ∙ ap (λ (x : Moves). pending (ticks look (l .ticks) (x .core) .core .run)) (sym e)
+              ∙ sym (ap (λ (x : Moves). pending (x .core .run)) (leaps .same look (sym there)))
+              ∙ ap pendingBy (leaps .goes-on)
+              ∙ none;
           infused-few = omega (arith, on .some, leaps .within, leaps .few);
           withdrawn-few = omega (arith, on .some, leaps .within, leaps .few);
           beeps-few = omega (arith, on .some, leaps .within);

@@ -1,24 +1,36 @@
--- The calls, refusals included: for each the new state, the whole report and, for a byte, the whole buffer.   (01, Calls; 02, 1/12)
+-- The calls, refusals included: for each the new state, the whole report and, where one is handed in, the whole buffer.   (01, Calls;
+-- 02, 1/12 and 2/12)
 use Prim.Native.Nat.{ℕ, zero, suc, _+_, _≤_}
 use mathlib.Core.List.{List}
 use lib.Dec.{eqb}
-use lib.ListN.{length}
+use lib.ListN.{length, take}
 use Rattle.base.specs.If.{if_then_else_}
+use Rattle.words.specs.declared.answers.Reply.the-variants.{Garbled}
 use Rattle.words.specs.declared.answers.Said.{Said}
 use Rattle.words.specs.declared.answers.Said.the-variants as said
+use Rattle.words.specs.declared.commands.Asked.{Asked}
 use Rattle.program.specs.Statuses.{inHand}
 use Rattle.tick.specs.Ticks.{tick}
-use Rattle.line.specs.Lines.{afterByte}
+use Rattle.tick.specs.declared.Moved.{Moved}
+use Rattle.line.specs.Lines.{emptyLine, afterByte}
+use Rattle.line.specs.Requests.{askedIn, askedOf}
 use Rattle.line.specs.declared.lines.Arrived.{Arrived}
+use Rattle.packet.specs.declared.receiver.Outcome as link-told
+use Rattle.packet.specs.declared.receiver.Outcome.the-variants as packet
+use Rattle.link.specs.Link.{isSafe, linkAfter, clearedLink}
+use Rattle.link.specs.declared.Link.{Link}
+use Rattle.link.specs.declared.Taken.{Taken}
 use Rattle.answer.specs.Answers.{lengthIn, bufferAfter}
-use Rattle.pump.specs.Device.{withLine, edge, hearLine, said}
+use Rattle.answer.specs.declared.frame.Frame.{Frame}
+use Rattle.answer.specs.declared.frame.Frame.the-variants as frame
+use Rattle.pump.specs.Device.{withLine, withLink, edge, hearText, said}
 use Rattle.pump.specs.Holder.{phaseCount, phaseAt, hereOf, withDevice, edited, isSoundPump}
-use Rattle.pump.specs.Reports.{ofPin, ofByte, ofTicks, isRefused, refused, unlessRefused, reported, movedBy}
+use Rattle.pump.specs.Reports.{ofPin, ofByte, ofTicks, isRefused, Outcome, refused, unlessRefused, reported, movedBy, movedBuffer}
 use Rattle.pump.specs.declared.calls.Listened.{Listened}
 use Rattle.pump.specs.declared.device.Heard.{Heard}
 use Rattle.pump.specs.declared.device.Told.{Told}
+use Rattle.pump.specs.declared.device.Told.the-variants as told
 use Rattle.pump.specs.declared.holder.Pump.{Pump}
-use Rattle.pump.specs.declared.reports.Refusal.the-variants.{Accepted, Unsound}
 use Rattle.pump.specs.declared.reports.Report.{Report}
 
 -- what the code of a call may rely on once the state is known to be sound
@@ -26,34 +38,51 @@ pub record Handy (p : Pump) : Type 0 where
   pub current-few : p .device .core .run .place .current ≤ 100
   pub chosen-few : p .device .core .chosen ≤ 100
 
--- ---- a tick: 4 where the state is not sound
-abbrev pub ticked : Pump → Report
-ticked p = movedBy p (tick (p .device .core) (hereOf p)) Accepted
+-- ---- a tick: 4 where the state is not sound, then 1. What Safe mode sends is written to the buffer
+abbrev pub tickAt : Pump → Moved
+tickAt p = tick (p .device .core) (hereOf p)
 
-unfoldable pub tickCall : Pump → Report
-tickCall p = if isSoundPump p then ticked p else refused p Unsound
+unfoldable pub tickCall : Pump → List ℕ → Report
+tickCall p buffer = unlessRefused p (ofByte (isSoundPump p) (length buffer)) (movedBy p (tickAt p) buffer)
 
--- ---- many ticks: so many single ticks, one after the other; the last one's report, with the sums   (02, 1/12)
-abbrev pub andTick : Report → Report → Report
-andTick r t =
+unfoldable pub tickBuffer : Pump → List ℕ → List ℕ
+tickBuffer p buffer = if isRefused (ofByte (isSoundPump p) (length buffer)) then buffer else movedBuffer p (tickAt p) buffer
+
+abbrev pub tickDone : Pump → List ℕ → Outcome
+tickDone p buffer = record { report = tickCall p buffer; buffer = tickBuffer p buffer }
+
+-- ---- many ticks: so many single ticks, one after the other; the last one's report, with the sums, and its buffer   (02, 1/12)
+abbrev pub andTick : Outcome → Outcome → Outcome
+andTick o t =
     record {
-      pump = t .pump;
-      length = t .length;
-      infused = r .infused + t .infused;
-      withdrawn = r .withdrawn + t .withdrawn;
-      beeps = r .beeps + t .beeps;
-      ticks = r .ticks + t .ticks;
-      refusal = t .refusal;
-      output = t .output;
+      report =
+          record {
+            pump = t .report .pump;
+            length = t .report .length;
+            infused = o .report .infused + t .report .infused;
+            withdrawn = o .report .withdrawn + t .report .withdrawn;
+            beeps = o .report .beeps + t .report .beeps;
+            ticks = o .report .ticks + t .report .ticks;
+            refusal = t .report .refusal;
+            output = t .report .output;
+          };
+      buffer = t .buffer;
     }
 
-unfoldable pub inTurn : ℕ → Pump → Report
-inTurn zero p = reported p 0
-inTurn (suc n) p = andTick (inTurn n p) (tickCall (inTurn n p .pump))
+-- no more after a tick that sent an alarm   (02, 2/12: "the call of 1/12 ends after such a tick")
+abbrev pub oneMore : Outcome → Outcome
+oneMore o = if eqb (o .report .length) 0 then andTick o (tickDone (o .report .pump) (o .buffer)) else o
 
--- 4 where the state is not sound, then 5 for too many
-unfoldable pub ticksCall : Pump → ℕ → Report
-ticksCall p n = unlessRefused p (ofTicks (isSoundPump p) n) (inTurn n p)
+unfoldable pub inTurn : ℕ → Pump → List ℕ → Outcome
+inTurn zero p buffer = record { report = reported p 0; buffer = buffer }
+inTurn (suc n) p buffer = oneMore (inTurn n p buffer)
+
+-- 4 where the state is not sound, then 1, then 5 for too many
+unfoldable pub ticksCall : Pump → ℕ → List ℕ → Report
+ticksCall p n buffer = unlessRefused p (ofTicks (isSoundPump p) (length buffer) n) (inTurn n p buffer .report)
+
+unfoldable pub ticksBuffer : Pump → ℕ → List ℕ → List ℕ
+ticksBuffer p n buffer = if isRefused (ofTicks (isSoundPump p) (length buffer) n) then buffer else inTurn n p buffer .buffer
 
 -- ---- a pin level
 unfoldable pub pinCall : Pump → ℕ → ℕ → Report
@@ -64,35 +93,63 @@ pinCall p pin level =
 abbrev pub saying : Pump → Told → Listened
 saying p t = record { pump = p; said = said (p .device) t (hereOf p .direction) }
 
--- ---- a whole line: the phases that it may concern are looked up, and the edit that it asks for is stored
+abbrev pub silently : Pump → Listened
+silently p = record { pump = p; said = said.Nothing }
+
+-- ---- a whole text, of a line or of a packet: the phases that it may concern are looked up, and the edit that it asks for is stored
 abbrev pub listenedTo : Pump → Heard → Listened
 listenedTo p h = saying (edited (withDevice p (h .device)) (inHand (p .device .core)) (h .edit)) (h .told)
 
-unfoldable pub afterLine : Pump → Listened
-afterLine p =
+unfoldable pub afterText : Pump → Asked → Listened
+afterText p asked =
     listenedTo p
-    (hearLine (p .device) (phaseAt (p .phases) (inHand (p .device .core)))
+    (hearText (p .device) asked (phaseAt (p .phases) (inHand (p .device .core)))
     (phaseAt (p .phases) (inHand (p .device .core) + 1) .function) (phaseCount p))
 
--- ---- a byte goes to the line, and a line that it ends is heard
-abbrev pub held : Pump → Arrived → Pump
-held p a = withDevice p (withLine (p .device) (a .line))
-
+-- ---- Basic mode: a byte goes to the line; a line that it ends is heard, and emptied whatever it asks for
 abbrev pub heardBy : Pump → Arrived → Listened
-heardBy p a = if a .ended then afterLine (held p a) else record { pump = held p a; said = said.Nothing }
+heardBy p a =
+    if a .ended
+    then afterText (withDevice p (withLine (p .device) emptyLine)) (askedIn (a .line))
+    else silently (withDevice p (withLine (p .device) (a .line)))
+
+-- ---- Safe mode: a byte goes to the packet under way, if there is one; a wrong packet is answered `?COM` and asks for nothing, and the
+-- data of a good one are heard   (02, 2/12)
+abbrev pub withLinkOf : Pump → Link → Pump
+withLinkOf p l = withDevice p (withLink (p .device) l)
+
+abbrev pub toldBy : Pump → Link → link-told.Outcome → Listened
+toldBy p l packet.Nothing = silently (withLinkOf p l)
+toldBy p l packet.Wrong = saying (withLinkOf p l) (told.Reply Garbled)
+toldBy p l (packet.Good n) = afterText (withLinkOf p (clearedLink l)) (askedOf (take n (l .bytes)))
+
+-- how many data a good packet has
+abbrev pub dataIn : link-told.Outcome → ℕ
+dataIn packet.Nothing = 0
+dataIn packet.Wrong = 0
+dataIn (packet.Good n) = n
 
 unfoldable pub hear : Pump → ℕ → Listened
-hear p b = heardBy p (afterByte (p .device .line) b)
+hear p b =
+    if isSafe (p .device .link)
+    then toldBy p (linkAfter (p .device .link) b .link) (linkAfter (p .device .link) b .outcome)
+    else heardBy p (afterByte (p .device .line) b)
 
--- what is said is framed with our address, 0
-abbrev pub answered : Pump → Said → List ℕ → Report
-answered p x buffer = reported p (lengthIn 0 x buffer)
+-- what is said is framed with our address, 0, as the mode asks in which the byte came   (02, 2/12: "answered in the mode they came in")
+abbrev pub frameIn : Link → Frame
+frameIn l = if isSafe l then frame.Packet else frame.Line
+
+abbrev pub frameOf : Pump → Frame
+frameOf p = frameIn (p .device .link)
+
+abbrev pub answered : Pump → Frame → Said → List ℕ → Report
+answered p f x buffer = reported p (lengthIn f 0 x buffer)
 
 abbrev pub received : Pump → ℕ → List ℕ → Report
-received p b buffer = answered (hear p b .pump) (hear p b .said) buffer
+received p b buffer = answered (hear p b .pump) (frameOf p) (hear p b .said) buffer
 
 abbrev pub receivedBuffer : Pump → ℕ → List ℕ → List ℕ
-receivedBuffer p b buffer = bufferAfter 0 (hear p b .said) buffer
+receivedBuffer p b buffer = bufferAfter (frameOf p) 0 (hear p b .said) buffer
 
 -- ---- a byte; what is refused leaves the buffer as it was
 unfoldable pub byteReport : Pump → ℕ → List ℕ → Report

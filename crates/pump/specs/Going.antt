@@ -3,8 +3,10 @@ use Prim.Native.Nat.{ℕ, _+_, _-_, _*_, _≤_, _<_}
 use mathlib.Core.Path.{_≡_}
 use mathlib.Core.Bool.{true}
 use Rattle.words.specs.declared.phases.Phase.{Phase}
+use Rattle.program.specs.Runs.{pending}
 use Rattle.program.specs.Sound.{Table, isSoundCore}
 use Rattle.program.specs.declared.state.Core.{Core}
+use Rattle.program.specs.declared.state.Pending.the-variants.{NoAlarm}
 use Rattle.leap.specs.Leaps.{mostTicks, Moves, ticks}
 use Rattle.pump.specs.declared.many.Going.{Going}
 
@@ -34,6 +36,13 @@ pub record Turned (g : Going) (here : Phase) (r : Going) : Type 0 where
       → here ≡ look (g .core .run .place .current)
       → movesIn g ≡ ticks look i s
       → movesIn r ≡ ticks look (i + (g .left - r .left)) s
+  -- and no alarm was raised before the last of them
+  pub calm :
+      (look : ℕ → Phase) (s : Core) (i : ℕ)
+      → here ≡ look (g .core .run .place .current)
+      → movesIn g ≡ ticks look i s
+      → pending (g .core .run) ≡ NoAlarm
+      → pending (ticks look (i + (g .left - r .left) - 1) s .core .run) ≡ NoAlarm
   pub infused-few : r .infused ≤ g .infused + (g .left - r .left) * 255
   pub withdrawn-few : r .withdrawn ≤ g .withdrawn + (g .left - r .left) * 255
   pub beeps-few : r .beeps ≤ g .beeps + (g .left - r .left)

@@ -1,32 +1,38 @@
-// All of the state but the phases: the core and the line. What a call does to them is a function of them and of the phases looked up for
-// them, whatever holds those.
+// All of the state but the phases: the core, the line and the link. What a call does to them is a function of them and of the phases
+// looked up for them, whatever holds those.
 ghost use mathlib.Core.Path.{_≡_};
 ghost use Prim.Native.Nat.{_≤_};
-ghost use Rattle.pump.specs.Device.{powerUpDevice, withCore, withLine, isSoundDevice, edge, hearLine, ours, obeyed, said};
+ghost use Rattle.pump.specs.Device.{powerUpDevice, withCore, withLine, withLink, isSoundDevice, edge, hearText, ours, met, setLimit};
+ghost use Rattle.pump.specs.Device.{replied, obeyed, said, linkBehind};
 use command::Edit;
 use drive::Direction;
 use line::Line;
+use link::Link;
 use program::Core;
 use program::Pending;
 use words::Alarm;
+use words::Asked;
+use words::Command;
 use words::Function;
 use words::Phase;
 use words::Reply;
+use words::Request;
 use words::Said;
 
 pub struct Device {
     pub core: Core,
     pub line: Line,
+    pub link: Link,
 }
 
-// What a line is answered with, before the status is known: that is the status after the edit.
+// What a text is answered with, before the status is known: that is the status after the edit.
 pub enum Told {
     Nothing,
     Alarm(Alarm),
     Reply(Reply),
 }
 
-// What a whole line does: the device after it, what is to be done to the phases, and what is told.
+// What a whole text does: the device after it, what is to be done to the phases, and what is told.
 pub struct Heard {
     pub device: Device,
     pub edit: Edit,
@@ -41,6 +47,7 @@ impl Device {
         Device {
             core: Core::power_up(),
             line: Line::empty(),
+            link: Link::basic(),
         }
     }
 
@@ -49,7 +56,8 @@ impl Device {
         requires { ⌜ phases ≤ 99 ⌝ }
         ensures { λ r. ⌜ r ≡ isSoundDevice phases self current ⌝ }
     {
-        self.core.is_sound(current, phases) & self.line.is_sound()
+        let apart = !self.link.is_safe() | (self.line.len == 0);
+        self.core.is_sound(current, phases) & self.line.is_sound() & self.link.is_sound() & apart
     }
 
     // A level of pin 2, 4 or 6.
@@ -65,27 +73,27 @@ impl Device {
         self.with_core(core)
     }
 
-    // The line is whole, and is emptied whatever it asks for. Another address is passed over. `hand` is the phase in hand, `next` the
-    // function of the phase one number higher.
-    pub fn hear_line(self, hand: Phase, next: Function, phases: u8) -> Heard
+    // A whole text, whatever framed it. Another address is passed over. `hand` is the phase in hand, `next` the function of the phase one
+    // number higher.
+    pub fn hear_text(self, asked: Asked, hand: Phase, next: Function, phases: u8) -> Heard
         requires { ⌜ self .core .run .place .current ≤ 100 ⌝ }
-        ensures { λ r. ⌜ r ≡ hearLine self hand next phases ⌝ }
+        ensures { λ r. ⌜ r ≡ hearText self asked hand next phases ⌝ }
     {
-        let emptied = self.with_line(Line::empty());
-        if self.line.address_in() == 0 {
-            return emptied.ours(self.line, hand, next, phases);
+        if asked.address == 0 {
+            let request = asked.request;
+            return self.ours(request, hand, next, phases);
         }
         Heard {
-            device: emptied,
+            device: self,
             edit: Edit::Keep,
             told: Told::Nothing,
         }
     }
 
     // A pending alarm is answered, then cleared, and the command is not run.
-    fn ours(mut self, line: Line, hand: Phase, next: Function, phases: u8) -> Heard
+    fn ours(mut self, request: Request, hand: Phase, next: Function, phases: u8) -> Heard
         requires { ⌜ self .core .run .place .current ≤ 100 ⌝ }
-        ensures { λ r. ⌜ r ≡ ours self line hand next phases ⌝ }
+        ensures { λ r. ⌜ r ≡ ours self request hand next phases ⌝ }
     {
         let pending = self.core.run.pending();
         if let Pending::Raised(alarm) = pending {
@@ -96,17 +104,51 @@ impl Device {
                 told: Told::Alarm(alarm),
             };
         }
-        self.obeyed(line, hand, next, phases)
+        self.met(request, hand, next, phases)
     }
 
-    // The command that the line asks for is run.
-    fn obeyed(mut self, line: Line, hand: Phase, next: Function, phases: u8) -> Heard
+    // SAF is asked of the link, in every state of the pump; every other command of the pump.
+    fn met(self, request: Request, hand: Phase, next: Function, phases: u8) -> Heard
         requires { ⌜ self .core .run .place .current ≤ 100 ⌝ }
-        ensures { λ r. ⌜ r ≡ obeyed self line hand next phases ⌝ }
+        ensures { λ r. ⌜ r ≡ met self request hand next phases ⌝ }
     {
-        let obeyed = command::obey(self.core, hand, next, phases, line.command_in());
+        match request {
+            Request::AskLimit => self.replied(Reply::Limit(self.link.limit())),
+            Request::SetLimit(n) => self.set_limit(n),
+            Request::Pump(command) => self.obeyed(command, hand, next, phases),
+        }
+    }
+
+    // The time limit in seconds; 0 returns to Basic mode.
+    fn set_limit(self, n: u16) -> Heard
+        ensures { λ r. ⌜ r ≡ setLimit self n ⌝ }
+    {
+        if n <= 255 {
+            return self.with_link(Link::limited(n as u8))
+                .replied(Reply::Status);
+        }
+        self.replied(Reply::OutOfRange)
+    }
+
+    fn replied(self, reply: Reply) -> Heard
+        ensures { λ r. ⌜ r ≡ replied self reply ⌝ }
+    {
+        Heard {
+            device: self,
+            edit: Edit::Keep,
+            told: Told::Reply(reply),
+        }
+    }
+
+    // A command of the pump is run. *RESET returns to Basic mode too.
+    fn obeyed(mut self, command: Command, hand: Phase, next: Function, phases: u8) -> Heard
+        requires { ⌜ self .core .run .place .current ≤ 100 ⌝ }
+        ensures { λ r. ⌜ r ≡ obeyed self command hand next phases ⌝ }
+    {
+        let obeyed = command::obey(self.core, hand, next, phases, command);
         let edit = obeyed.edit;
         let reply = obeyed.reply;
+        self.link = link_behind(edit, self.link);
         self = self.with_core(obeyed.core);
         Heard {
             device: self,
@@ -138,5 +180,23 @@ impl Device {
     {
         self.line = line;
         self
+    }
+
+    pub fn with_link(mut self, link: Link) -> Device
+        ensures { λ r. ⌜ r ≡ withLink self link ⌝ }
+    {
+        self.link = link;
+        self
+    }
+}
+
+// *RESET leaves Safe mode; it alone asks for all phases as at power-up.
+fn link_behind(edit: Edit, link: Link) -> Link
+    ensures { λ r. ⌜ r ≡ linkBehind edit link ⌝ }
+{
+    match edit {
+        Edit::Keep => link,
+        Edit::Write(_) => link,
+        Edit::Renew => Link::basic(),
     }
 }

@@ -1,9 +1,10 @@
 // The pump (document 01, Calls; Line and answer): the device, which is all of the state but its phases; the holder of 41 phases; and the
-// calls: a fresh state, a byte, a pin level, a tick, and many ticks at a time (document 02, 1/12). No call asks anything of its caller:
-// whatever is handed in has its outcome, and what a call refuses comes back as it was. The holder looks phases up, calls the device with
-// them, and stores what comes back.
+// calls: a fresh state, a byte, a pin level, a tick, and many ticks at a time (document 02, 1/12); lines or, in Safe mode (2/12), packets.
+// No call asks anything of its caller: whatever is handed in has its outcome, and what a call refuses comes back as it was. The holder
+// looks phases up, calls the device with them, and stores what comes back.
 //
-//   device    the core and the line; what a whole line and an edge do to them
+//   device    the core, the line and the link; what a whole text and an edge do to them
+//   elapsing  what ticks do beside the work of the phases: the time limit, and the alarm that is sent
 //   holder    the phases: the state, its constants, the phase of a number, and the edit that a command asks for
 //   checks    when the whole is sound
 //   reports   what every call hands back, and the refusals
@@ -12,6 +13,7 @@
 mod calls;
 mod checks;
 mod device;
+mod elapsing;
 mod holder;
 mod many;
 mod reports;

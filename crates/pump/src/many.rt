@@ -1,8 +1,9 @@
-// Many ticks at a time (document 02, 1/12): the same as that many calls of `Pump::tick`, one after the other. The state is tested once: a
-// tick keeps a sound state sound. A single tick goes this way too.
+// Many ticks at a time (document 02, 1/12): the same as that many calls of `Pump::tick`, one after the other, up to one that sends an alarm
+// (2/12). The state is tested once: a tick keeps a sound state sound. A single tick goes this way too.
 ghost use mathlib.Core.Path.{_≡_};
-ghost use Rattle.pump.specs.Calls.{ticksCall};
+ghost use Rattle.pump.specs.Calls.{ticksCall, ticksBuffer};
 ghost use Rattle.pump.specs.Going.{Ongoing, Turned};
+use crate::elapsing::is_alarmed;
 use crate::holder::Pump;
 use crate::reports::Refusal;
 use crate::reports::Report;
@@ -20,9 +21,10 @@ pub struct Going {
 
 impl Pump {
     // So many milliseconds, up to 1,000,000. All in one function, with one copy of the phases for the test and for the run: a call that is
-    // handed the pump would make another. What is refused runs no tick.
-    pub fn ticks(self, n: u32) -> Report
-        ensures { λ r. ⌜ r ≡ ticksCall self n ⌝ }
+    // handed the pump would make another. What is refused runs no tick. In Safe mode the ticks end with the one that raises an alarm: they
+    // run no further than the time limit, and are watched for an alarm of the program where none was pending.
+    pub fn ticks(self, n: u32, out: &mut [u8]) -> Report
+        ensures { λ r. ⌜ (r ≡ ticksCall self n (now (out .entry))) × (now (out .exit) ≡ ticksBuffer self n (now (out .entry))) ⌝ }
     {
         let phases = self.phases;
         let first = self.device.core.run.place.current;
@@ -43,11 +45,19 @@ impl Pump {
         if i == Pump::PHASES as usize {
             sound = self.device.is_sound(here, Pump::PHASES);
         }
-        let refusal = Refusal::of_ticks(sound, n);
-        let done = if refusal.is_refused() { 0 } else { n };
-        let mut going = Going::from(self.device.core, done);
+        let refusal = Refusal::of_ticks(sound, out.len(), n);
+        let span = if refusal.is_refused() {
+            0
+        } else {
+            self.device.reach(n)
+        };
+        let watched = self.device.is_watched();
+        let mut going = Going::from(self.device.core, span);
         while 0 < going.left {
             going = turn(going, here);
+            if watched & is_alarmed(going.core) {
+                break;
+            }
             let current = going.core.run.place.current;
             here = Phase::power_up(0);
             if (1 <= current) & (current <= Pump::PHASES) {
@@ -55,7 +65,7 @@ impl Pump {
                 here = phases[at];
             }
         }
-        self.gone(going, done, refusal)
+        self.gone(going, span, refusal, out)
     }
 }
 

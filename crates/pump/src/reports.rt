@@ -1,10 +1,14 @@
 // What every call hands back, and the refusals.
 ghost use mathlib.Core.Path.{_≡_};
 ghost use Rattle.pump.specs.Reports.{refusalNumber, ofPin, ofByte, ofTicks, isRefused};
-ghost use Rattle.pump.specs.Reports.{refused, reported, gone};
+ghost use Rattle.pump.specs.Reports.{refused, reported, gone, goneBuffer};
 ghost use Rattle.pump.specs.Going.{movesIn};
+ghost use Rattle.link.specs.Link.{isSoundLink};
+ghost use mathlib.Core.Bool.{true};
+ghost use Prim.Native.Nat.{_-_, _≤_, _<_};
 use crate::holder::Pump;
 use crate::many::Going;
+use answer::Frame;
 
 pub enum Refusal {
     Accepted,
@@ -34,7 +38,7 @@ impl Refusal {
         Refusal::Unsound
     }
 
-    // That of a byte: the state, then the room for an answer.
+    // That of a byte and of a tick: the state, then the room for an answer.
     pub fn of_byte(sound: bool, size: usize) -> Refusal
         ensures { λ r. ⌜ r ≡ ofByte sound size ⌝ }
     {
@@ -47,15 +51,18 @@ impl Refusal {
         Refusal::Unsound
     }
 
-    // That of many ticks: the state, then their number.
-    pub fn of_ticks(sound: bool, n: u32) -> Refusal
-        ensures { λ r. ⌜ r ≡ ofTicks sound n ⌝ }
+    // That of many ticks: the state, then the room for an alarm, then their number.
+    pub fn of_ticks(sound: bool, size: usize, n: u32) -> Refusal
+        ensures { λ r. ⌜ r ≡ ofTicks sound size n ⌝ }
     {
         if sound {
-            if leap::MOST_TICKS < n {
-                return Refusal::TooManyTicks;
+            if answer::ROOM <= size {
+                if leap::MOST_TICKS < n {
+                    return Refusal::TooManyTicks;
+                }
+                return Refusal::Accepted;
             }
-            return Refusal::Accepted;
+            return Refusal::ShortBuffer;
         }
         Refusal::Unsound
     }
@@ -129,14 +136,20 @@ impl Pump {
         }
     }
 
-    // So many ticks that were done; none where they were refused.
-    pub fn gone(self, going: Going, ticks: u32, refusal: Refusal) -> Report
-        ensures { λ r. ⌜ r ≡ gone self (movesIn going) ticks refusal ⌝ }
+    // The ticks that were done, of `span` that were to be; none where they were refused. Only the last of them can have raised an alarm,
+    // which is sent.
+    pub fn gone(self, going: Going, span: u32, refusal: Refusal, out: &mut [u8]) -> Report
+        requires { ⌜ (going .left ≤ span) × (0 < span → isSoundLink (self .device .link) ≡ true) ⌝ }
+        ensures { λ r. ⌜ (r ≡ gone self (movesIn going) (span - going .left) refusal (now (out .entry)))
+            × (now (out .exit) ≡ goneBuffer self (movesIn going) (span - going .left) (now (out .entry))) ⌝ }
     {
         let core = going.core;
+        let ticks = span - going.left;
+        let said = self.device.sent_in(ticks, core);
+        let length = answer::write(Frame::Packet, 0, said, out);
         Report {
-            pump: self.with_device(self.device.with_core(core)),
-            length: 0,
+            pump: self.with_device(self.device.after_ticks(ticks, core)),
+            length: length,
             infused: going.infused,
             withdrawn: going.withdrawn,
             beeps: going.beeps,

@@ -1,7 +1,7 @@
 -- `Device::ours` meets its contract.
 -- Assumes nothing.
-use Rattle.pump.proofs.Hearing.{hearing}
 use borrow.Author.Needs.{needs}
+use Rattle.pump.proofs.Hearing.{hearing}
 use Rattle.pump.proofs.device.Device.ours.Statement.{statement}
 use Rattle.pump.proofs.device.Device.ours.Tie as tie
 
@@ -15,10 +15,10 @@ pub ours-spec : {M : Type 1} → statement M
 ours-spec =
     tie.close
     (tie.spec
-    (λ c κs. tt)
+    (λ c κs. search needs)
     (λ c. search needs)
-    (λ c κs. tt)
-    (λ c κs. tt)
+    (λ c κs. search needs)
+    (λ c κs. search needs)
     returns
     (λ c. search needs)
     (λ c κs. search needs)

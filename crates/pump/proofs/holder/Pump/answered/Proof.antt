@@ -1,12 +1,13 @@
 -- `Pump::answered` meets its contract.
 -- Assumes nothing.
-use Rattle.pump.proofs.Calling.{answered-report}
+use Rattle.pump.proofs.Calling.{answering}
 use borrow.Author.Needs.{needs}
 use Rattle.pump.proofs.holder.Pump.answered.Statement.{statement}
 use Rattle.pump.proofs.holder.Pump.answered.Tie as tie
 
 returns : tie.Need-returns
-returns c = search answered-report
+returns c = search answering
 
 pub answered-spec : {M : Type 1} → statement M
-answered-spec = tie.close (tie.spec (λ c κs. tt) (λ c κs. tt) (λ c. search needs) returns)
+answered-spec =
+    tie.close (tie.spec (λ c κs. search needs) (λ c κs. search needs) (λ c κs. search needs) (λ c. search needs) returns)

@@ -16,44 +16,44 @@ use Rattle.statement.proofs.Many.{apart-after}
 abbrev pub Single : Call → Type 0
 Single (byteIn b buffer) = Unit {0}
 Single (pinAt pin level) = Unit {0}
-Single tickIn = Unit {0}
-Single (ticksIn n) = ⊥
+Single (tickIn buffer) = Unit {0}
+Single (ticksIn n buffer) = ⊥
 
 abbrev pub inSingles : Pump → Call → List Call
 inSingles p (byteIn b buffer) = byteIn b buffer ∷ []
 inSingles p (pinAt pin level) = pinAt pin level ∷ []
-inSingles p tickIn = tickIn ∷ []
-inSingles p (ticksIn n) = singleTicks (reportAfter p (ticksIn n) .ticks)
+inSingles p (tickIn buffer) = tickIn buffer ∷ []
+inSingles p (ticksIn n buffer) = singleTicks (reportAfter p (ticksIn n buffer) .ticks) buffer
 
 unfoldable pub singly : Pump → List Call → List Call
 singly p [] = []
 singly p (c ∷ cs) = inSingles p c ++ singly (reportAfter p c .pump) cs
 
 -- ---- one call
-ticks-single : (n : ℕ) → Every Single (singleTicks n)
+ticks-single : (n : ℕ) (buffer : List ℕ) → Every Single (singleTicks n buffer)
 unfolding singleTicks
-ticks-single zero = tt
-ticks-single (suc n) = (tt, ticks-single n)
+ticks-single zero buffer = tt
+ticks-single (suc n) buffer = (tt, ticks-single n buffer)
 
 call-single : (p : Pump) (c : Call) → Every Single (inSingles p c)
 call-single p (byteIn b buffer) = (tt, tt)
 call-single p (pinAt pin level) = (tt, tt)
-call-single p tickIn = (tt, tt)
-call-single p (ticksIn n) = ticks-single (reportAfter p (ticksIn n) .ticks)
+call-single p (tickIn buffer) = (tt, tt)
+call-single p (ticksIn n buffer) = ticks-single (reportAfter p (ticksIn n buffer) .ticks) buffer
 
 call-after : (p : Pump) (c : Call) → after p (inSingles p c) ≡ reportAfter p c .pump
 unfolding after
 call-after p (byteIn b buffer) = refl
 call-after p (pinAt pin level) = refl
-call-after p tickIn = refl
-call-after p (ticksIn n) = apart-after p n
+call-after p (tickIn buffer) = refl
+call-after p (ticksIn n buffer) = apart-after p n buffer
 
 call-trace : (p : Pump) (c : Call) → trace p (inSingles p c) ≡ apart (eventOf p c)
 unfolding trace
 call-trace p (byteIn b buffer) = refl
 call-trace p (pinAt pin level) = refl
-call-trace p tickIn = refl
-call-trace p (ticksIn n) = refl
+call-trace p (tickIn buffer) = refl
+call-trace p (ticksIn n buffer) = refl
 
 -- ---- any calls
 pub singly-single : (p : Pump) (cs : List Call) → Every Single (singly p cs)
@@ -85,8 +85,8 @@ singly-trace p (c ∷ cs) =
 single-apart : (p : Pump) (c : Call) → Single c → apart (eventOf p c) ≡ (eventOf p c ∷ [])
 single-apart p (byteIn b buffer) h = refl
 single-apart p (pinAt pin level) h = refl
-single-apart p tickIn h = refl
-single-apart p (ticksIn n) h = absurd h
+single-apart p (tickIn buffer) h = refl
+single-apart p (ticksIn n buffer) h = absurd h
 
 pub single-stays : (p : Pump) (cs : List Call) → Every Single cs → tickByTick (trace p cs) ≡ trace p cs
 unfolding trace tickByTick

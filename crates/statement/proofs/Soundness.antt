@@ -18,10 +18,11 @@ use Rattle.program.specs.declared.state.Work.the-variants.{Entering, Visiting, 
 use Rattle.program.proofs.Parts.{ledger-clauses, ledger-sound, RunClauses, run-clauses, run-sound, CoreClauses, core-clauses, core-sound}
 use Rattle.pump.specs.Holder.{phaseCount, hereOf, isSoundPump}
 use Rattle.pump.specs.declared.holder.Pump.{Pump}
-use Rattle.pump.proofs.Kept.{pump-phases, pump-core, pump-line, pump-sound}
+use Rattle.pump.proofs.Kept.{pump-phases, pump-core, pump-line, pump-link, pump-apart, pump-sound}
 use Rattle.statement.specs.Facts.{Between, Ranges, coreOf, runOf, underWay, Sound}
 use Rattle.statement.proofs.Clauses as clauses
 use Rattle.statement.proofs.Clauses.{between}
+use Rattle.statement.proofs.Links.{safe-facts, link-test, apart-test}
 
 -- ---- from the test to the facts
 diameter-facts : (d : ℕ) → (isDiameter d ≡ true) ↔ Between 100 d 50_000
@@ -47,6 +48,7 @@ module _ (p : Pump) (e : isSoundPump p ≡ true) where
         trap = λ n k. between 1 n (phaseCount p) .0 (sym (ap (isSoundTrap (phaseCount p)) k) ∙ run .trap-sound);
         begun = λ i k. loop-bounded (phaseCount p) (runOf p .loops) (run .loops-sound) i k .begun-most;
         line = clauses.line-facts (p .device .line) (pump-line p e);
+        link = λ s k. safe-facts (p .device) s (pump-link p e) (pump-apart p e) k;
       }
 
   work : (w : Work) → underWay p ≡ w → isSoundWork (coreOf p .syringe) (hereOf p) (runOf p .rate) w ≡ true
@@ -110,6 +112,8 @@ module _ (p : Pump) (s : Sound p) where
       pump-sound p (clauses.phases-test (phaseCount p) (p .phases) (s .phases))
       (core-sound (phaseCount p) (coreOf p) (hereOf p) core-test)
       (clauses.line-test (p .device .line) (s .ranges .line))
+      (link-test (p .device) (s .ranges .link))
+      (apart-test (p .device) (s .ranges .link))
 
 pub sound-iff : (p : Pump) → (isSoundPump p ≡ true) ↔ Sound p
 sound-iff p = (sound-facts p, sound-test p)

@@ -1,7 +1,8 @@
 -- When a state is sound, said without a test: the clauses of document 01's sentence, a fact each, in its order. That the test which the
--- calls run says just this is a theorem (proofs/Soundness.antt, sound-iff). Three clauses hold by the types of the state, and have no
+-- calls run says just this is a theorem (proofs/Soundness.antt, sound-iff). Some clauses hold by the types of the state, and have no
 -- field here: the store is 0 outside a visit, at most one of visit, timed pause and trigger wait is under way, and an alarm is pending
--- only in a stopped pump.   (01, Calls; Numbers; Volumes)
+-- only in a stopped pump; in Basic mode there is neither a timer nor a part packet, a limit is at most 255, a part packet has a length of
+-- 4 to 44, fewer bytes than that, and its check right once both check bytes are in.   (01, Calls; Numbers; Volumes; 02, 2/12)
 use Prim.Native.Nat.{ℕ, _+_, _*_, _≤_, _<_}
 use mathlib.Core.Path.{_≡_}
 use mathlib.Core.Logic.{_⊎_}
@@ -32,7 +33,13 @@ use Rattle.program.specs.declared.state.Work.{Work}
 use Rattle.program.specs.declared.state.Work.the-variants.{Entering, Visiting, Pausing, Waiting}
 use Rattle.line.specs.Lines.{lineText}
 use Rattle.line.specs.declared.lines.Line.{Line}
+use Rattle.packet.specs.Follows.{PlaceFact}
+use Rattle.link.specs.declared.Link.{Link}
+use Rattle.link.specs.declared.Mode.the-variants.{Safe}
+use Rattle.link.specs.declared.Safety.{Safety}
+use Rattle.link.specs.declared.Timer.the-variants.{Left}
 use Rattle.pump.specs.Holder.{phaseCount, stopPhase, hereOf}
+use Rattle.pump.specs.declared.device.Device.{Device}
 use Rattle.pump.specs.declared.holder.Pump.{Pump}
 
 abbrev pub Between : ℕ → ℕ → ℕ → Type 0
@@ -78,9 +85,20 @@ pub record LineFacts (l : Line) : Type 0 where
   pub overlong-full : l .overlong ≡ true → 40 ≤ l .len
   pub characters : (i : ℕ) → i < length (lineText l) → Character (getD (lineText l) i 0)
 
+-- in Safe mode: a limit of at least a second; the timer waits or has 1 to 1,000 n ticks left; a part packet of at most 40 data, with 0 to
+-- 499 quiet ticks; and no line begun   (02, 2/12)
+pub record SafeFacts (v : Device) (s : Safety) : Type 0 where
+  pub limited : 1 ≤ s .limit
+  pub timed : (t : ℕ) → s .timer ≡ Left t → Between 1 t (1000 * s .limit)
+  pub part : PlaceFact (s .place)
+  pub no-line : v .line .len ≡ 0
+
 -- ---- where things stand
 abbrev pub coreOf : Pump → Core
 coreOf p = p .device .core
+
+abbrev pub linkOf : Pump → Link
+linkOf p = p .device .link
 
 abbrev pub runOf : Pump → Run
 runOf p = p .device .core .run
@@ -104,6 +122,7 @@ pub record Ranges (p : Pump) : Type 0 where
   pub trap : (n : ℕ) → runOf p .trap ≡ Armed n → Between 1 n (phaseCount p)
   pub begun : (i : ℕ) → i < length (loopsOf p) → getD (loopsOf p) i noLoop .begun ≤ phaseCount p
   pub line : LineFacts (p .device .line)
+  pub link : (s : Safety) → linkOf p .mode ≡ Safe s → SafeFacts (p .device) s
 
 -- above 0, and at most four thresholds
 abbrev pub Usable : Syringe → Rate → Type 0

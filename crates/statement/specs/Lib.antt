@@ -3,3 +3,4 @@ pub mod Facts
 pub mod Histories
 pub mod Outcomes
 pub mod Many
+pub mod Safe

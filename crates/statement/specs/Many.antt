@@ -19,6 +19,8 @@ pub record MadeOf (e : Event) (es : List Event) : Type 0 where
   pub withdrawn : e .report .withdrawn ≡ sumOf (λ r. r .withdrawn) es
   pub beeps : e .report .beeps ≡ sumOf (λ r. r .beeps) es
   pub ticks : e .report .ticks ≡ sumOf (λ r. r .ticks) es
+  -- what it sends is what they send, which is the last one's   (02, 2/12)
+  pub answer : e .report .length ≡ sumOf (λ r. r .length) es
   -- they lead from the state before it to the one that it handed back, and each is what its caller would have got
   pub follows : Follows (e .before) es (e .report .pump)
   pub got : Every Got es

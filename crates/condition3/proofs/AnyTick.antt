@@ -3,7 +3,6 @@
 use Prim.Native.Nat.{_-_}
 use mathlib.Core.Path.{_≡_, refl, sym, ap, _∙_, subst}
 use mathlib.Core.Bool.{false}
-use mathlib.Core.List.{[]}
 use lib.Dec.{leb}
 use Rattle.loops.specs.Loops.{opened}
 use Rattle.program.specs.Cores.{withRun}
@@ -17,14 +16,14 @@ use Rattle.tick.specs.Ticks.{silent, workBy, tickBy, tick}
 use Rattle.tick.specs.Working.{workPause}
 use Rattle.tick.specs.declared.Moved.{Moved}
 use Rattle.soundness.proofs.Runs.{by-test}
-use Rattle.pump.specs.Holder.{hereOf}
+use Rattle.soundness.proofs.Ticks.{kept-tick}
+use Rattle.pump.specs.Calls.{tickAt}
+use Rattle.pump.specs.Holder.{phaseCount, phaseAt, hereOf}
 use Rattle.pump.specs.declared.holder.Pump.{Pump}
-use Rattle.pump.specs.declared.reports.Report.{Report}
-use Rattle.pump.proofs.Kept.{sound-tick}
+use Rattle.pump.proofs.Kept.{core-sound, pump-core, table-here}
 use Rattle.statement.specs.Facts.{coreOf, runOf, underWay}
-use Rattle.statement.specs.Histories.{Whole, eventOf, tickIn}
+use Rattle.statement.specs.Histories.{Whole}
 use Rattle.statement.specs.Outcomes.{pumpWithCore}
-use Rattle.statement.proofs.Always.{call-whole}
 use Rattle.condition3.specs.Books.{Books, nothing}
 use Rattle.condition3.specs.Stored.{SameWork, isSet}
 use Rattle.condition3.proofs.Entering.{enters-phase}
@@ -75,10 +74,19 @@ module _ (p : Pump) (b : Books) (k : Kept p b) where
       λ w. idle-on p b k (silent (coreOf p)) (still (runOf p) w) (rw e refl) (ap isStoppedIn e) (k .work) refl refl
   tick-mode Running e = tick-work e (underWay p) refl
 
-  -- ---- the call
-  pub tick-steps : Stepped b (eventOf p tickIn)
+  -- ---- the work of any tick
+  pub core-whole : Whole (pumpWithCore p (tickAt p .core))
+  core-whole =
+      let sound = k .whole .sound in
+      record {
+        model = k .whole .model;
+        places = k .whole .places;
+        packet-places = k .whole .packet-places;
+        sound =
+            core-sound p sound (tickAt p .core)
+            (kept-tick (phaseCount p) (phaseAt (p .phases)) (table-here p sound) (coreOf p) (pump-core p sound));
+      }
+
+  pub tick-works : Stepped b (moved p (tickAt p))
   unfolding tick
-  tick-steps =
-      let same = sound-tick p (k .whole .sound) in
-      subst (λ (r : Report). Stepped b (record { before = p; call = tickIn; report = r; buffer = [] })) (sym same)
-      (tick-mode (runOf p .mode) refl (subst (λ (r : Report). Whole (r .pump)) same (call-whole p tickIn (k .whole))))
+  tick-works = tick-mode (runOf p .mode) refl core-whole

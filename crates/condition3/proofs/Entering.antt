@@ -3,7 +3,7 @@
 use Prim.Native.Nat.{ℕ, _+_, _≤_}
 use mathlib.Core.Path.{_≡_, refl, sym, ap, _∙_, subst}
 use mathlib.Core.Bool.{Bool, true, false, not, _&&_, _||_}
-use mathlib.Core.List.{List, _∷_, reverse}
+use mathlib.Core.List.{List, [], _∷_, reverse}
 use native.Mathlib.Omega.{arith}
 use lib.Dec.{eqb, ltb, leb}
 use lib.ListN.{length, length-take}
@@ -80,7 +80,7 @@ module _ (p : Pump) (b : Books) (k : Kept p b) (runs : runOf p .mode ≡ Running
 
   entering : (r : Run) → deed b (event r) ≡ enters (viewOf p)
   entering r =
-      ap (λ (x : Doing). deedBy x (viewOf p) tickIn) none-before
+      ap (λ (x : Doing). deedBy x (viewOf p) (tickIn [])) none-before
       ∙ ap (λ (t : Bool). if_then_else_ {A = Deed} t (enters (viewOf p)) other) moving
 
   number-seen : number (viewOf p .phase .function) ≡ number g
@@ -163,7 +163,7 @@ module _ (p : Pump) (b : Books) (k : Kept p b) (runs : runOf p .mode ≡ Running
       stepped-by b (event r) (enters (viewOf p)) true refl (entering r) d w
       (makes-gone b (event r) (behind r) (silent-beside p b k (made r) (silent r w)) (enters (viewOf p)) gone (none-fits r n))
       (silent-ruled p b k (made r) (silent r w))
-      turns
+      (λ _. turns)
       (silent-few p b k (made r) (silent r w))
 
   pub stops :
@@ -235,7 +235,7 @@ module _ (p : Pump) (b : Books) (k : Kept p b) (runs : runOf p .mode ≡ Running
           totals = beside .totals;
         })
         (silent-ruled p b k (made r) (silent r w))
-        turns
+        (λ _. turns)
         (silent-few p b k (made r) (silent r w))
 
     -- a function that leaves loops and trap
@@ -452,7 +452,7 @@ module _ (p : Pump) (b : Books) (k : Kept p b) (runs : runOf p .mode ≡ Running
           totals = beside .totals;
         })
         (silent-ruled p b k (made r) (silent r w))
-        (rate-entry r (λ z _. (on, sets (sym (ap number is) ∙ z))))
+        (λ _. rate-entry r (λ z _. (on, sets (sym (ap number is) ∙ z))))
         (silent-few p b k (made r) (silent r w))
       where
         rate-turn : turn h ≡ (b .loops, b .trap)

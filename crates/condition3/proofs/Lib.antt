@@ -1,6 +1,4 @@
 -- Condition 3: every call keeps the pump and the observer's books in agreement; and wrong engines, which the condition refuses.
-pub mod Stops
-pub mod Pauses
 pub mod Views
 pub mod Noting
 pub mod Loops
@@ -10,12 +8,18 @@ pub mod Entering
 pub mod Working
 pub mod AnyTick
 pub mod Orders
+pub mod Packets
 pub mod Quiet
 pub mod Turning
 pub mod Pins
 pub mod Obeying
+pub mod Answers
+pub mod Lapsing
+pub mod Texts
 pub mod Bytes
 pub mod Theorem
+pub mod Stops
+pub mod Pauses
 pub mod Opening
 pub mod Example
 pub mod WrongEngines

@@ -29,7 +29,8 @@ use Rattle.statement.specs.Facts.{Nothing, coreOf, runOf, underWay, loopsOf}
 use Rattle.statement.specs.Histories.{Whole, Event, Every}
 use Rattle.statement.proofs.Soundness.{sound-facts}
 use Rattle.condition3.specs.Books.{Books, Visit, Doing, nothing, visiting, Deed, other, isWhole, allVisits, noted, deed, drops}
-use Rattle.condition3.specs.Books.{doingBy, madeBy, heard, clears, told, stepAt, viewOf, volumeAt, isObeyed, asked, firesBy, stops}
+use Rattle.condition3.specs.Books.{doingBy, madeBy, fourAfter, lineAfter, packetAfter, quietAfter, isSafe, clears, told, stepAt}
+use Rattle.condition3.specs.Books.{viewOf, volumeAt, isObeyed, asked, firesBy, stops}
 use Rattle.condition3.specs.Condition.{Fits}
 use Rattle.condition3.specs.Stored.{SameVisit, SameWork, isSet}
 use Rattle.condition3.proofs.Views.{isStoppedIn, view-stopped}
@@ -42,8 +43,10 @@ entry b e done t =
       past = if isWhole (doingBy (b .doing) e done) || t then allVisits (doingBy (b .doing) e done) (b .past) else b .past;
       loops = if t then [] else madeBy (b .loops) (b .trap) done .0;
       trap = not t && madeBy (b .loops) (b .trap) done .1;
-      line = heard (b .line) (b .four) (e .call) .0;
-      four = heard (b .line) (b .four) (e .call) .1;
+      four = fourAfter (b .four) (e .call);
+      line = lineAfter (b .line) (isSafe (viewOf (e .before))) (e .call);
+      packet = packetAfter b (isSafe (viewOf (e .before))) (ltb 0 (e .report .length)) (e .call);
+      quiet = quietAfter (b .quiet) (e .call);
       given = λ d. if clears d b e then 0 else b .given d + told d e * stepAt (viewOf (e .before) .diameter);
     }
 
@@ -63,7 +66,7 @@ not-noted b e r = ap (λ t. if_then_else_ {A = Books} t (entry b e (deed b e) (d
 
 -- ---- an event clears, restarts and drops, part by part
 abbrev pub restarts : Books → Event → Bool
-restarts b e = isObeyed e && leads (text "RUN") (asked b) && ltb 3 (length (asked b))
+restarts b e = isObeyed e && leads (text "RUN") (asked b e) && ltb 3 (length (asked b e))
 
 pub none-cleared : (d : Direction) (b : Books) (e : Event) → isObeyed e ≡ false → clears d b e ≡ false
 unfolding clears
@@ -102,12 +105,12 @@ pub record Makes (b : Books) (e : Event) (q : Pump) (done : Deed) (t : Bool) : T
   pub fits : Every Fits (allVisits (doingBy (b .doing) e done) (b .past))
   pub loops : loopsOf q ≡ reverse (entry b e done t .loops)
   pub trap : isSet (runOf q .trap) ≡ entry b e done t .trap
-  pub four : coreOf q .pins .four ≡ heard (b .line) (b .four) (e .call) .1
-  pub line : q .device .line ≡ collect emptyLine (heard (b .line) (b .four) (e .call) .0)
+  pub four : coreOf q .pins .four ≡ fourAfter (b .four) (e .call)
+  pub line : q .device .line ≡ collect emptyLine (lineAfter (b .line) (isSafe (viewOf (e .before))) (e .call))
   pub totals : (d : Direction) → totalOf (coreOf q .ledger) d ≡ entry b e done t .given d
 
 -- the visits are the same, over or not
-all-same :
+pub all-same :
     (t : Bool) (now : Doing) (past : List Visit)
     → allVisits (if t then nothing else now) (if t then allVisits now past else past) ≡ allVisits now past
 all-same true now past = refl
@@ -190,8 +193,8 @@ over false now = refl
 
 -- the parts of a call that have nothing to do with the program
 pub record Beside (b : Books) (e : Event) (q : Pump) : Type 0 where
-  pub four : coreOf q .pins .four ≡ heard (b .line) (b .four) (e .call) .1
-  pub line : q .device .line ≡ collect emptyLine (heard (b .line) (b .four) (e .call) .0)
+  pub four : coreOf q .pins .four ≡ fourAfter (b .four) (e .call)
+  pub line : q .device .line ≡ collect emptyLine (lineAfter (b .line) (isSafe (viewOf (e .before))) (e .call))
   pub totals : (d : Direction) → totalOf (coreOf q .ledger) d ≡ entry b e other true .given d
 
 module _ (b : Books) (e : Event) (q : Pump) (s : Beside b e q) where

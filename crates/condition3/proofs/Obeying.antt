@@ -62,11 +62,13 @@ isError reply.Status = false
 isError reply.Malformed = true
 isError reply.NotApplicable = true
 isError reply.OutOfRange = true
+isError reply.Garbled = true
 isError (reply.Number x) = false
 isError (reply.Rate x unit) = false
 isError (reply.Volume x unit) = false
 isError (reply.Direction d) = false
 isError (reply.Phase n) = false
+isError (reply.Limit n) = false
 isError (reply.Function g) = false
 isError (reply.Totals infused withdrawn unit) = false
 

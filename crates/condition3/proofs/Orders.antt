@@ -1,7 +1,9 @@
--- The observer reads a line as the engine does: he drops up to two leading digits of the characters that came and compares texts (Books),
--- the engine parses the first 40 of them (commandIn). Of every line, and whatever characters it holds:
+-- The observer reads a line or a packet's data as the engine does: he drops up to two leading digits of the characters and compares texts
+-- (Books), the engine parses them, of a line the first 40 (askedIn, askedOf). Of every text:
+--     line-agrees, data-agree   the two agree on it (Agree), and so
 --     clears-as-asked   what he takes for a clearing of a direction's total is what asks the engine to clear it
---     starts-as-asked   what he takes for RUN with a phase is that, or the line is malformed, and so not obeyed
+--     starts-as-asked   what he takes for RUN with a phase is that, or the text is malformed, and so not obeyed
+--     reset-as-asked    what asks the engine for *RESET he takes for it
 --     collected-more    a line that has collected one byte more is the line after that byte
 -- Assumes nothing.
 use Prim.Native.Nat.{ℕ, _+_, _≤_, _<_, compare·suc-suc}
@@ -18,11 +20,13 @@ use Rattle.base.specs.If.{if_then_else_}
 use Rattle.base.specs.Text.{text}
 use Rattle.base.proofs.Choices.{and-left, and-right, and-false, false-true}
 use Rattle.decimal.specs.Read.{isDigit, read}
-use Rattle.decimal.specs.Short.{readOne, readTwo, readTenths}
+use Rattle.decimal.specs.Short.{readOne, readTwo, readTenths, readThree}
 use Rattle.decimal.specs.declared.input.Reading.{Reading}
 use Rattle.decimal.specs.declared.input.Reading.the-variants.{Number, NoNumber}
 use Rattle.decimal.specs.declared.short.Short.{Short}
 use Rattle.decimal.specs.declared.short.Short.the-variants.{Digits, NoDigits}
+use Rattle.decimal.specs.declared.short.Three.{Three}
+use Rattle.decimal.specs.declared.short.Three.the-variants as three
 use Rattle.drive.specs.declared.directions.Direction.{Direction}
 use Rattle.drive.specs.declared.directions.Direction.the-variants.{Infuse, Withdraw}
 use Rattle.words.specs.Commands.{commandNumber, asksToClear, clearNumber, isReset}
@@ -31,14 +35,17 @@ use Rattle.words.specs.declared.functions.Function.{Function}
 use Rattle.words.specs.declared.functions.Function.the-variants as f
 use Rattle.words.specs.declared.commands.Command.{Command}
 use Rattle.words.specs.declared.commands.Command.the-variants as c
+use Rattle.words.specs.declared.commands.Request.{Request}
+use Rattle.words.specs.declared.commands.Request.the-variants as request
 use Rattle.line.specs.Addresses.{addressWidth, unaddressed}
 use Rattle.line.specs.Arguments as asked
 use Rattle.line.specs.Arguments.{orQuery, ifNumber, ifDigits, unlessMore}
 use Rattle.line.specs.Functions as functions
 use Rattle.line.specs.Collected.{collect, Holds}
 use Rattle.line.specs.Commands.{askedBy, commandOf}
-use Rattle.line.specs.Lines.{emptyLine, afterByte, commandIn}
+use Rattle.line.specs.Lines.{emptyLine, afterByte}
 use Rattle.line.specs.Names.{names, nameAmong, nameOf, lettersOf, argumentOf}
+use Rattle.line.specs.Requests.{limitBy, limitAsked, requestOf, askedOf, askedIn}
 use Rattle.line.specs.Spelling.{leads, isText}
 use Rattle.line.specs.declared.arguments.Heading.{Heading}
 use Rattle.line.specs.declared.arguments.Heading.the-variants as heading
@@ -248,10 +255,10 @@ module _ (s : List ℕ) where
   function = query c.AskFunction (functions.functionBy (functions.calledIn s) s) refl (function-by (functions.calledIn s))
 
 -- ---- what the observer takes a text for, and what a command is
-abbrev clearsBy : Direction → List ℕ → Bool
+abbrev pub clearsBy : Direction → List ℕ → Bool
 clearsBy d s = isText (ofWay d (text "CLDINF") (text "CLDWDR")) s || isText (text "*RESET") s
 
-abbrev startsBy : List ℕ → Bool
+abbrev pub startsBy : List ℕ → Bool
 startsBy s = leads (text "RUN") s && ltb 3 (length s)
 
 no-clear : (d : Direction) (s : List ℕ) → leads (text "CLD") s ≡ false → isText (ofWay d (text "CLDINF") (text "CLDWDR")) s ≡ false
@@ -261,10 +268,10 @@ no-clear Withdraw s p = other-front (text "CLD") (text "WDR") s p
 clears-not : (d : Direction) (s : List ℕ) → leads (text "CLD") s ≡ false → leads (text "*RESET") s ≡ false → clearsBy d s ≡ false
 clears-not d s p q = simp (no-clear d s p, other-front (text "*RESET") [] s q)
 
-record Agree (s : List ℕ) (command : Command) : Type 0 where
-  infuse : clearsBy Infuse s ≡ asksToClear Infuse command
-  withdraw : clearsBy Withdraw s ≡ asksToClear Withdraw command
-  start : (command ≡ c.Malformed) ⊎ (startsBy s ≡ eqb (commandNumber command) 16)
+pub record Agree (s : List ℕ) (command : Command) : Type 0 where
+  pub infuse : clearsBy Infuse s ≡ asksToClear Infuse command
+  pub withdraw : clearsBy Withdraw s ≡ asksToClear Withdraw command
+  pub start : (command ≡ c.Malformed) ⊎ (startsBy s ≡ eqb (commandNumber command) 16)
 
 neither : (t u : Bool) → (t || u) ≡ false → (t ≡ false) × (u ≡ false)
 neither true u e = false-true (sym e)
@@ -384,15 +391,39 @@ unfolding commandOf leads isText
 command-agree [] = record { infuse = refl; withdraw = refl; start = inr refl }
 command-agree (b ∷ s) = simp (ne-eqb (length (b ∷ s)) 0 (λ e. omega arith)) (named-agree (b ∷ s))
 
+-- ---- every request: SAF is asked of the link, and asks the pump for nothing, as the empty command does   (02, 2/12)
+abbrev pub pumpAsked : Request → Command
+pumpAsked request.AskLimit = c.Status
+pumpAsked (request.SetLimit k) = c.Status
+pumpAsked (request.Pump command) = command
+
+limit-agree : (t : List ℕ) → Agree (text "SAF" ++ t) (pumpAsked (limitAsked t))
+unfolding limitAsked leads
+limit-agree t = go (eqb (length t) 0) (readThree t)
+  where
+    go : (u : Bool) (r : Three) → Agree (text "SAF" ++ t) (pumpAsked (if u then request.AskLimit else limitBy r))
+    go true r = apart-agree (text "SAF" ++ t) c.Status refl refl refl refl
+    go false (three.Number k) = apart-agree (text "SAF" ++ t) c.Status refl refl refl refl
+    go false three.NoNumber = apart-agree (text "SAF" ++ t) c.Malformed refl refl refl refl
+
+request-agree : (s : List ℕ) → Agree s (pumpAsked (requestOf s))
+unfolding requestOf
+request-agree s = go (leads (text "SAF") s) refl
+  where
+    go : (u : Bool) → leads (text "SAF") s ≡ u → Agree s (pumpAsked (if u then limitAsked (drop 3 s) else request.Pump (commandOf s)))
+    go true e =
+        subst (λ (t : List ℕ). Agree t (pumpAsked (limitAsked (drop 3 s)))) (sym (leads-is (text "SAF") s e)) (limit-agree (drop 3 s))
+    go false e = command-agree s
+
 -- ---- every line
 module _ (l : Line) (cs : List ℕ) (h : Holds l cs) where
-  within : length cs ≤ 40 → commandIn l ≡ commandOf (said cs)
-  unfolding commandIn
+  within : length cs ≤ 40 → askedIn l .request ≡ requestOf (said cs)
+  unfolding askedIn
   within k =
-      simp (h .more ∙ le-ltb 40 (length cs) k) (ap commandOf (ap unaddressed (h .kept ∙ take-all 40 cs k) ∙ sym (said-is cs)))
+      simp (h .more ∙ le-ltb 40 (length cs) k) (ap requestOf (ap unaddressed (h .kept ∙ take-all 40 cs k) ∙ sym (said-is cs)))
 
-  longer : 40 < length cs → commandIn l ≡ c.Malformed
-  unfolding commandIn
+  longer : 40 < length cs → askedIn l .request ≡ request.Pump c.Malformed
+  unfolding askedIn
   longer k = simp (h .more ∙ lt-ltb 40 (length cs) k)
 
   longer-agree : 40 < length cs → Agree (said cs) c.Malformed
@@ -405,47 +436,48 @@ module _ (l : Line) (cs : List ℕ) (h : Holds l cs) where
         start = inl refl;
       }
 
-  agree : Agree (said cs) (commandIn l)
-  agree = go (ltb 40 (length cs)) refl
+  pub line-agrees : Agree (said cs) (pumpAsked (askedIn l .request))
+  line-agrees = go (ltb 40 (length cs)) refl
     where
-      go : (t : Bool) → ltb 40 (length cs) ≡ t → Agree (said cs) (commandIn l)
+      go : (t : Bool) → ltb 40 (length cs) ≡ t → Agree (said cs) (pumpAsked (askedIn l .request))
       go true e =
-          let k : 40 < length cs = ltb-true 40 (length cs) e in subst (Agree (said cs)) (sym (longer k)) (longer-agree k)
-      go false e = subst (Agree (said cs)) (sym (within (ltb-false 40 (length cs) e))) (command-agree (said cs))
+          let k : 40 < length cs = ltb-true 40 (length cs) e in
+          subst (λ (r : Request). Agree (said cs) (pumpAsked r)) (sym (longer k)) (longer-agree k)
+      go false e =
+          subst (λ (r : Request). Agree (said cs) (pumpAsked r)) (sym (within (ltb-false 40 (length cs) e))) (request-agree (said cs))
 
-pub clears-as-asked :
-    (l : Line) (cs : List ℕ)
-    → Holds l cs
-    → (d : Direction)
-    → (isText (ofWay d (text "CLDINF") (text "CLDWDR")) (said cs) || isText (text "*RESET") (said cs)) ≡ asksToClear d (commandIn l)
-clears-as-asked l cs h Infuse = agree l cs h .infuse
-clears-as-asked l cs h Withdraw = agree l cs h .withdraw
+-- ---- every packet's data
+pub data-agree : (s : List ℕ) → Agree (said s) (pumpAsked (askedOf s .request))
+unfolding askedOf
+data-agree s = subst (λ (t : List ℕ). Agree (said s) (pumpAsked (requestOf t))) (said-is s) (request-agree (said s))
 
-pub starts-as-asked :
-    (l : Line) (cs : List ℕ)
-    → Holds l cs
-    → (commandIn l ≡ c.Malformed)
-    ⊎ ((leads (text "RUN") (said cs) && ltb 3 (length (said cs))) ≡ eqb (commandNumber (commandIn l)) 16)
-starts-as-asked l cs h = agree l cs h .start
+-- ---- what the observer takes a text for
+module _ (s : List ℕ) (command : Command) (a : Agree s command) where
+  pub clears-as-asked : (d : Direction) → clearsBy d s ≡ asksToClear d command
+  clears-as-asked Infuse = a .infuse
+  clears-as-asked Withdraw = a .withdraw
 
--- ---- *RESET
-pub reset-as-asked : (l : Line) (cs : List ℕ) → Holds l cs → isReset (commandIn l) ≡ true → isText (text "*RESET") (said cs) ≡ true
-unfolding isText leads
-reset-as-asked l cs h r = go (isText (text "*RESET") (said cs)) refl
-  where
-    both : (d : Direction) → (isText (ofWay d (text "CLDINF") (text "CLDWDR")) (said cs) || isText (text "*RESET") (said cs)) ≡ true
-    both d =
-        clears-as-asked l cs h d
-        ∙ ap (λ (t : Bool). eqb (commandNumber (commandIn l)) (clearNumber d) || t) r
-        ∙ or-true (eqb (commandNumber (commandIn l)) (clearNumber d))
+  pub starts-as-asked : (command ≡ c.Malformed) ⊎ (startsBy s ≡ eqb (commandNumber command) 16)
+  starts-as-asked = a .start
 
-    clear : (d : Direction) → isText (text "*RESET") (said cs) ≡ false → said cs ≡ ofWay d (text "CLDINF") (text "CLDWDR")
-    clear d e =
-        text-is (ofWay d (text "CLDINF") (text "CLDWDR")) (said cs)
-        (sym (or-false (isText (ofWay d (text "CLDINF") (text "CLDWDR")) (said cs)))
-        ∙ ap (λ (t : Bool). isText (ofWay d (text "CLDINF") (text "CLDWDR")) (said cs) || t) (sym e)
-        ∙ both d)
+  -- ---- *RESET
+  pub reset-as-asked : isReset command ≡ true → isText (text "*RESET") s ≡ true
+  unfolding isText leads
+  reset-as-asked r = go (isText (text "*RESET") s) refl
+    where
+      both : (d : Direction) → clearsBy d s ≡ true
+      both d =
+          clears-as-asked d
+          ∙ ap (λ (t : Bool). eqb (commandNumber command) (clearNumber d) || t) r
+          ∙ or-true (eqb (commandNumber command) (clearNumber d))
 
-    go : (t : Bool) → isText (text "*RESET") (said cs) ≡ t → isText (text "*RESET") (said cs) ≡ true
-    go true e = e
-    go false e = false-true (ap (isText (text "CLDINF")) (sym (clear Withdraw e) ∙ clear Infuse e))
+      clear : (d : Direction) → isText (text "*RESET") s ≡ false → s ≡ ofWay d (text "CLDINF") (text "CLDWDR")
+      clear d e =
+          text-is (ofWay d (text "CLDINF") (text "CLDWDR")) s
+          (sym (or-false (isText (ofWay d (text "CLDINF") (text "CLDWDR")) s))
+          ∙ ap (λ (t : Bool). isText (ofWay d (text "CLDINF") (text "CLDWDR")) s || t) (sym e)
+          ∙ both d)
+
+      go : (t : Bool) → isText (text "*RESET") s ≡ t → isText (text "*RESET") s ≡ true
+      go true e = e
+      go false e = false-true (ap (isText (text "CLDINF")) (sym (clear Withdraw e) ∙ clear Infuse e))

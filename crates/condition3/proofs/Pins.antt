@@ -18,25 +18,20 @@ use Rattle.program.specs.declared.state.Mode.{Mode}
 use Rattle.program.specs.declared.state.Mode.the-variants.{Stopped, Paused, Running}
 use Rattle.program.specs.declared.state.Trap.{Trap}
 use Rattle.program.specs.declared.state.Trap.the-variants.{NoTrap, Armed}
-use Rattle.line.specs.Spelling.{isText}
 use Rattle.soundness.proofs.Runs.{by-test}
 use Rattle.pump.specs.declared.holder.Pump.{Pump}
-use Rattle.statement.specs.Facts.{coreOf, runOf}
+use Rattle.statement.specs.Facts.{coreOf, runOf, linkOf}
 use Rattle.statement.specs.Histories.{pinAt, Whole, Event}
 use Rattle.statement.specs.Outcomes.{Outcome, Level, low, high, Edge, two, four, six, Levelled, Still, pumpWithCore}
-use Rattle.condition3.specs.Books.{Books, isObeyed, clears, firesBy, other, viewOf, moves, stepAt, told}
-use Rattle.condition3.specs.Stored.{isSet}
-use Rattle.condition3.proofs.Noting.{Kept, Beside, Gone, none-cleared, none-restarted}
+use Rattle.condition3.specs.Books.{Books, clears, deed, drops, firesBy, other, viewOf, moves, stepAt, told}
+use Rattle.condition3.specs.Stored.{isSet, SamePacket}
+use Rattle.condition3.proofs.Noting.{Kept, Beside, Gone, none-cleared, none-restarted, noted-is}
 use Rattle.condition3.proofs.Quiet.{seen, alike-same, quiet-step}
-use Rattle.condition3.proofs.Ticks.{Stepped, none-told}
+use Rattle.condition3.proofs.Ticks.{Stepped, Followed, none-told, unanswered}
 use Rattle.condition3.proofs.Turning.{TurnsTo, keeps, calm, turns-foot, foot-on, turns-as}
 use Rattle.condition3.proofs.Views.{isStoppedIn, isPausedIn, view-paused, view-moves, moving-on}
 
--- ---- no answer, no step: nothing is cleared or started, and the totals stay
-pub unanswered : (e : Event) → e .report .length ≡ 0 → isObeyed e ≡ false
-unfolding isObeyed isText
-unanswered e h = rw h refl
-
+-- ---- no step: the totals stay
 pub totals-stay :
     (p : Pump) (b : Books) (e : Event)
     → (d : Direction)
@@ -172,10 +167,19 @@ module _ (p : Pump) (b : Books) (k : Kept p b) (o : Outcome) (silent : o .report
 pub pin-steps :
     (p : Pump) (b : Books)
     → Kept p b
+    → SamePacket (linkOf p) (b .packet) (b .quiet)
     → (pin level : ℕ) (o : Outcome)
     → Levelled p pin level o
     → Whole (o .report .pump)
-    → Stepped b (seen p (pinAt pin level) o)
-pin-steps p b k pin level o l w =
-    edge-steps p b k o (l .silent .no-answer) pin level (l .is-high) (l .core) (l .at-level) (l .edge) (l .still)
-    (subst Whole (l .still .new-state) w)
+    → Followed b (seen p (pinAt pin level) o)
+pin-steps p b k packet pin level o l w =
+    let e = seen p (pinAt pin level) o in
+    record {
+      stepped =
+          edge-steps p b k o (l .silent .no-answer) pin level (l .is-high) (l .core) (l .at-level) (l .edge) (l .still)
+          (subst Whole (l .still .new-state) w);
+      packet =
+          subst (λ (y : Books). SamePacket (linkOf (o .report .pump)) (y .packet) (y .quiet))
+          (sym (noted-is b e (deed b e) (drops b e) (l .still .taken) refl refl))
+          (subst (λ (y : Pump). SamePacket (linkOf y) (b .packet) (b .quiet)) (sym (l .still .new-state)) packet);
+    }

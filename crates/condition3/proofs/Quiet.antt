@@ -3,6 +3,7 @@
 use mathlib.Core.Path.{_≡_, refl, sym, ap, _∙_, subst}
 use mathlib.Core.Bool.{Bool, true, false, _||_}
 use native.Mathlib.Omega.{arith}
+use Rattle.base.specs.If.{if_then_else_}
 use Rattle.base.specs.Text.{text}
 use Rattle.drive.specs.declared.syringe.Syringe.{Syringe}
 use Rattle.words.specs.declared.phases.Phase.{Phase}
@@ -18,8 +19,9 @@ use Rattle.pump.specs.declared.holder.Pump.{Pump}
 use Rattle.statement.specs.Facts.{coreOf, runOf, underWay, loopsOf}
 use Rattle.statement.specs.Histories.{Call, Whole, Event}
 use Rattle.statement.specs.Outcomes.{Outcome, Still}
-use Rattle.condition3.specs.Books.{Books, Visit, Doing, nothing, visiting, viewOf, moves, other, deed, drops, firesBy, asked}
-use Rattle.condition3.specs.Books.{volumeAt, stepAt}
+use Rattle.condition3.specs.Books.{Books, Visit, Doing, nothing, visiting, viewOf, moves, Deed, other, deedBy, deed, drops, firesBy}
+use Rattle.condition3.specs.Books.{asked}
+use Rattle.condition3.specs.Books.{volumeAt, stepAt, isTaken}
 use Rattle.condition3.specs.Stored.{SameVisit, SameWork, isSet}
 use Rattle.condition3.proofs.Noting.{Kept, Makes, Beside, Gone, makes-gone, makes-same, gone-stopped, restarts, drops-is}
 use Rattle.condition3.proofs.Noting.{some-volume}
@@ -79,7 +81,7 @@ same-visit p q v w place y a s =
     }
 
 module _ (p q : Pump) (b : Books) (k : Kept p b) where
-  same-work : Turns p q → SameWork q (underWay q) (b .doing)
+  pub same-work : Turns p q → SameWork q (underWay q) (b .doing)
   same-work (stays place l t y a) =
       subst (λ (x : Place). SameWork q (x .work) (b .doing)) (sym place) (go (underWay p) (b .doing) (k .work))
     where
@@ -103,18 +105,26 @@ module _ (p q : Pump) (b : Books) (k : Kept p b) where
   same-trap (stays place l t y a) = ap isSet t
   same-trap (rests before behind l t) = t
 
+-- a call that is no tick, taken or refused, does nothing of a tick
+pub no-deed : (t : Bool) (x : Deed) → x ≡ other → (if t then x else other) ≡ other
+no-deed true x e = e
+no-deed false x e = refl
+
 -- ---- one call that is no tick
 module _ (p : Pump) (b : Books) (k : Kept p b) (call : Call) (o : Outcome) (q : Pump) (s : Still q o) (w : Whole q)
-    (idle : deed b (seen p call o) ≡ other) (f r : Bool) (fires : firesBy b (seen p call o) other ≡ f)
+    (idle : deedBy (b .doing) (viewOf p) call ≡ other) (f r : Bool) (fires : firesBy b (seen p call o) other ≡ f)
     (starts : restarts b (seen p call o) ≡ r) (beside : Beside b (seen p call o) q)
-    (silent : moves (viewOf p) ≡ true → isStoppedIn (runOf q .mode) ≡ true → isText (text "*RESET") (asked b) ≡ true) where
+    (silent : moves (viewOf p) ≡ true → isStoppedIn (runOf q .mode) ≡ true → isText (text "*RESET") (asked b (seen p call o)) ≡ true) where
+  no-tick : deed b (seen p call o) ≡ other
+  no-tick = no-deed (isTaken (seen p call o)) (deedBy (b .doing) (viewOf p) call) idle
+
   dropping : drops b (seen p call o) ≡ (f || r || isStoppedIn (runOf q .mode))
   dropping =
-      drops-is b (seen p call o) other f r idle fires starts ∙ ap (λ (x : Pump). f || r || isStoppedIn (runOf x .mode)) (s .new-state)
+      drops-is b (seen p call o) other f r no-tick fires starts ∙ ap (λ (x : Pump). f || r || isStoppedIn (runOf x .mode)) (s .new-state)
 
   quiet-by : (t : Bool) → drops b (seen p call o) ≡ t → Makes b (seen p call o) q other t → Stepped b (seen p call o)
   quiet-by t y m =
-      stepped-by b (seen p call o) other t (s .taken) idle y (subst Whole (sym (s .new-state)) w)
+      stepped-by b (seen p call o) other t (s .taken) no-tick y (subst Whole (sym (s .new-state)) w)
       (subst (λ (x : Pump). Makes b (seen p call o) x other t) (sym (s .new-state)) m)
       (λ d. none-told d (o .report .infused) (o .report .withdrawn) (s .none-infused) (s .none-withdrawn))
       (λ moving halt.

@@ -1,12 +1,15 @@
--- The event of a tick, whatever it did: what the observer reads off it; what is to be shown of any event; and ticks in which nothing is
--- entered and no visit is worked.
+-- The event of a tick that did its work, whatever that is, and no more: the link stays, and nothing is sent. What the observer reads off
+-- it; what is to be shown of any event; and ticks in which nothing is entered and no visit is worked. What the link adds is in Lapsing.
 -- Assumes nothing.
 use Prim.Native.Nat.{ℕ, _+_, _*_, _≤_}
 use mathlib.Core.Path.{_≡_, refl, sym, ap, _∙_, subst}
-use mathlib.Core.Bool.{Bool, true, false, _||_, or-false}
+use mathlib.Core.Bool.{Bool, true, false, _&&_, _||_, or-false}
 use mathlib.Core.List.{[]}
 use native.Mathlib.Omega.{arith}
+use lib.Dec.{eqb}
+use lib.ListN.{length, take}
 use Rattle.base.specs.If.{if_then_else_}
+use Rattle.base.specs.Text.{text}
 use Rattle.base.proofs.Choices.{false-true}
 use Rattle.drive.specs.Syringe.{stepVolume}
 use Rattle.drive.specs.declared.directions.Direction.{Direction}
@@ -19,17 +22,18 @@ use Rattle.program.specs.declared.state.Work.{Work}
 use Rattle.program.specs.declared.state.Work.the-variants.{Entering, Visiting, Pausing, Waiting}
 use Rattle.tick.specs.declared.Moved.{Moved}
 use Rattle.line.specs.Spelling.{isText}
-use Rattle.pump.specs.Reports.{refusalNumber, movedBy}
+use Rattle.pump.specs.Reports.{refusalNumber}
 use Rattle.pump.specs.declared.holder.Pump.{Pump}
 use Rattle.pump.specs.declared.reports.Refusal.the-variants.{Accepted}
+use Rattle.pump.specs.declared.reports.Report.{Report}
 use Rattle.statement.specs.Facts.{coreOf, runOf, underWay, loopsOf}
 use Rattle.statement.specs.Histories.{Whole, Event, tickIn}
 use Rattle.statement.specs.Outcomes.{pumpWithCore}
 use Rattle.condition3.specs.Books.{Books, Doing, nothing, visiting, View, viewOf, moves, Deed, other, enters, works, deedBy, deed}
-use Rattle.condition3.specs.Books.{drops}
+use Rattle.condition3.specs.Books.{drops, isSafe, dataIn}
 use Rattle.condition3.specs.Books.{noted, firesBy, isObeyed, ruledBy, told, ofWay, stepAt}
 use Rattle.condition3.specs.Condition.{Goes}
-use Rattle.condition3.specs.Stored.{SameWork, isSet}
+use Rattle.condition3.specs.Stored.{SameWork, SamePacket, isSet}
 use Rattle.condition3.proofs.Noting.{Kept, Makes, Beside, kept-by, makes-gone, makes-same, gone-stopped, none-cleared}
 use Rattle.condition3.proofs.Noting.{none-restarted, drops-is}
 use Rattle.condition3.proofs.Views.{isStoppedIn, movesIn, view-moves}
@@ -40,6 +44,11 @@ pub record Stepped (b : Books) (e : Event) : Type 0 where
   pub ruled : (d : Direction) → told d e ≡ ruledBy d (b .given d) (deed b e)
   pub goes : Goes b e (deed b e)
   pub few : told Infuse e + told Withdraw e ≤ 4
+
+-- and of the packet under way
+pub record Followed (b : Books) (e : Event) : Type 0 where
+  pub stepped : Stepped b e
+  pub packet : SamePacket (e .report .pump .device .link) (noted b e .packet) (noted b e .quiet)
 
 pub stepped-by :
     (b : Books) (e : Event) (done : Deed) (t : Bool)
@@ -60,15 +69,37 @@ stepped-by b e done t r x y w m ruled goes few =
       few = few;
     }
 
--- ---- a tick that moved so
+-- ---- a tick that moved so, as it would be with no limit and no packet
+abbrev pub workOf : Pump → Moved → Report
+workOf p m =
+    record {
+      pump = pumpWithCore p (m .core);
+      length = 0;
+      infused = m .infused;
+      withdrawn = m .withdrawn;
+      beeps = if m .beep then 1 else 0;
+      ticks = 1;
+      refusal = Accepted;
+      output = m .core .output;
+    }
+
 abbrev pub moved : Pump → Moved → Event
-moved p m = record { before = p; call = tickIn; report = movedBy p m Accepted; buffer = [] }
+moved p m = record { before = p; call = tickIn []; report = workOf p m; buffer = [] }
+
+-- no answer tells that nothing was obeyed
+pub unanswered : (e : Event) → e .report .length ≡ 0 → isObeyed e ≡ false
+unfolding isObeyed isText
+unanswered e h = go (isSafe (viewOf (e .before)))
+  where
+    go : (t : Bool) → (isText (text "00") (take 2 (dataIn t (take (e .report .length) (e .buffer))))
+        && eqb (length (dataIn t (take (e .report .length) (e .buffer)))) 3) ≡ false
+    go true = rw h refl
+    go false = rw h refl
 
 module _ (b : Books) (p : Pump) (m : Moved) where
   -- it answers nothing, so that nothing is cleared or started
   no-answer : isObeyed (moved p m) ≡ false
-  unfolding isObeyed isText
-  no-answer = refl
+  no-answer = unanswered (moved p m) refl
 
   pub tick-drops :
       (done : Deed) (f : Bool)
@@ -124,7 +155,7 @@ same-none q (Visiting v) h = false-true (sym h)
 same-none q (Pausing left) h = tt
 same-none q Waiting h = tt
 
-idle-deed : (doing : Doing) (x : View) → moves x ≡ false → deedBy doing x tickIn ≡ other
+idle-deed : (doing : Doing) (x : View) → moves x ≡ false → deedBy doing x (tickIn []) ≡ other
 idle-deed nothing x h = ap (λ (t : Bool). if_then_else_ {A = Deed} t (enters x) other) h
 idle-deed (visiting w) x h = ap (λ (t : Bool). if_then_else_ {A = Deed} t (works w x) other) h
 

@@ -1,9 +1,11 @@
--- What the status letter tells of the mode and of what is under way.
+-- What the status letter tells of the mode and of what is under way, and what the time limit tells of the mode of the link.
 -- Assumes nothing.
-use Prim.Native.Nat.{ℕ}
+use Prim.Native.Nat.{ℕ, _≤_}
 use mathlib.Core.Path.{_≡_, refl, sym, _∙_}
 use mathlib.Core.Bool.{Bool, true, false, _||_}
-use lib.Dec.{eqb}
+use native.Mathlib.Omega.{arith}
+use lib.Dec.{eqb, ltb}
+use borrow.Author.Tests.{lt-ltb}
 use Rattle.base.specs.Text.{letter}
 use Rattle.base.proofs.Choices.{false-true}
 use Rattle.drive.specs.declared.directions.Direction.{Direction}
@@ -13,11 +15,17 @@ use Rattle.program.specs.declared.state.Mode.{Mode}
 use Rattle.program.specs.declared.state.Mode.the-variants.{Stopped, Paused, Running}
 use Rattle.program.specs.declared.state.Work.{Work}
 use Rattle.program.specs.declared.state.Work.the-variants.{Entering, Visiting, Pausing, Waiting}
+use Rattle.link.specs.Link as link
+use Rattle.link.specs.Link.{limitIn, safeIn}
+use Rattle.link.specs.declared.Mode as link-mode
+use Rattle.link.specs.declared.Mode.the-variants.{Basic, Safe}
+use Rattle.link.proofs.Modes.{stands}
 use Rattle.answer.specs.Letters.{statusLetter}
-use Rattle.pump.specs.Holder.{hereOf}
+use Rattle.pump.specs.Holder.{hereOf, isSoundPump}
 use Rattle.pump.specs.declared.holder.Pump.{Pump}
+use Rattle.pump.proofs.Kept.{pump-link}
 use Rattle.statement.specs.Facts.{runOf, underWay}
-use Rattle.condition3.specs.Books.{viewOf, moves}
+use Rattle.condition3.specs.Books.{viewOf, moves, isSafe}
 
 -- ---- S and P are told by the mode, I and W by what is under way in a program that runs
 abbrev pub isStoppedIn : Mode → Bool
@@ -83,3 +91,13 @@ moves-on Running w e = refl
 
 pub moving-on : (p : Pump) → moves (viewOf p) ≡ true → isStoppedIn (runOf p .mode) ≡ false
 moving-on p h = moves-on (runOf p .mode) (underWay p) (sym (view-moves p) ∙ h)
+
+-- ---- the limit is above 0 in Safe mode alone
+pub view-safe : (p : Pump) → isSoundPump p ≡ true → isSafe (viewOf p) ≡ link.isSafe (p .device .link)
+unfolding viewOf link.limitOf link.isSafe
+view-safe p sound = go (p .device .link .mode) refl
+  where
+    go : (m : link-mode.Mode) → p .device .link .mode ≡ m → ltb 0 (limitIn m) ≡ safeIn m
+    go Basic e = refl
+    go (Safe s) e =
+        let some : 1 ≤ s .limit = stands (p .device .link) s (pump-link p sound) e .limited in lt-ltb 0 (s .limit) (omega arith)

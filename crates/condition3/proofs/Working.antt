@@ -4,6 +4,7 @@ use Prim.Native.Nat.{ℕ, _+_, _-_, _*_, _/_, _%_, _≤_, _<_, min}
 use mathlib.Core.Path.{_≡_, refl, sym, ap, ap₂, _∙_, subst}
 use mathlib.Core.Logic.{_⊎_, inl, inr}
 use mathlib.Core.Bool.{Bool, true, false, not, _&&_, _||_}
+use mathlib.Core.List.{[]}
 use native.Mathlib.Nat.{zero-div}
 use native.Mathlib.Omega.{arith}
 use lib.Dec.{eqb, ltb, leb}
@@ -259,7 +260,7 @@ module _ (p : Pump) (b : Books) (k : Kept p b) (runs : runOf p .mode ≡ Running
 
       working : deed b event ≡ works w (viewOf p)
       working =
-          ap (λ (x : Doing). deedBy x (viewOf p) tickIn) is
+          ap (λ (x : Doing). deedBy x (viewOf p) (tickIn [])) is
           ∙ ap (λ (t : Bool). if_then_else_ {A = Deed} t (works w (viewOf p)) other) moving
 
       drops-by : books.drops b event ≡ isStoppedIn (run .mode)
@@ -328,7 +329,7 @@ module _ (p : Pump) (b : Books) (k : Kept p b) (runs : runOf p .mode ≡ Running
         (makes-gone b (event stop l 0) (q stop l 0) (beside stop l 0 (λ d. unbooked l way d (stepVolume (coreOf p .syringe))))
         (works w (viewOf p)) (gone-stopped (q stop l 0) wq refl) (fits-now stop l 0 (omega arith)))
         (ruled stop l 0 (sym (ap (λ (t : Bool). if t then 0 else due w rate) none)))
-        (in-place p moving refl refl, λ _ room. false-true (sym room ∙ ap (λ (d : Direction). isFull (b .given d) w rate) way-seen ∙ none))
+        (in-place p moving refl refl, λ _ _ room. false-true (sym room ∙ ap (λ (d : Direction). isFull (b .given d) w rate) way-seen ∙ none))
         (few stop l 0 (omega arith))
 
     -- ---- the steps are given
@@ -367,7 +368,7 @@ module _ (p : Pump) (b : Books) (k : Kept p b) (runs : runOf p .mode ≡ Running
             totals = here .totals;
           })
           (ruled run taken n (steps-same ∙ sym (ap (λ (t : Bool). if t then 0 else due w rate) not-full)))
-          (in-place p moving refl refl, λ part _. stays (sym (ap isWhole (now-is run taken n)) ∙ part))
+          (in-place p moving refl refl, λ _ part _. stays (sym (ap isWhole (now-is run taken n)) ∙ part))
           (few run taken n four)
 
       ends : isDone next ≡ true → Works (record { run = goOn (runOf p); ledger = taken; steps = n })

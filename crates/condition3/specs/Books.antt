@@ -4,25 +4,36 @@
 --     device.core.syringe.diameter                   DIA
 --     device.core.run.place.current, run.rate        PHN, RAT       (in I and W, as the next)
 --     phases, at that place                          FUN, VOL, DIR; the stored rate RAT, asked for when the pump is not operating
+--     device.link, the time limit                    SAF            (0 in Basic mode)
 -- What no query shows he keeps himself, by the document's sentences, said a second time: an engine wrong in definition and code is caught.
 use Rattle.condition3.specs.Terms.{ℕ, _+_, _-_, _*_, _/_, _%_, min, Bool, true, false, not, _&&_, _||_, leb, ltb, eqb, List, [], _∷_}
-use Rattle.condition3.specs.Terms.{_++_, length, take, drop, if_then_else_, letter, text, leads, isText, Direction, Infuse, Withdraw}
+use Rattle.condition3.specs.Terms.{_++_, length, take, if_then_else_, letter, text, leads, isText, Direction, Infuse, Withdraw}
 use Rattle.condition3.specs.Terms.{Um, Mm, Uh, Mh, Rate, NoRate, Current, Phase, number, datum, Loop, Pump, hereOf, statusRun}
-use Rattle.condition3.specs.Terms.{statusLetter, refusalNumber, characters, Call, byteIn, pinAt, tickIn, ticksIn, Event}
+pub use Rattle.condition3.specs.Wire.{Packet, outside, inside, hasAll, packetBy, packetData, dataIn, pastDigit}
+use Rattle.condition3.specs.Terms.{statusLetter, limitOf, refusalNumber, characters, Call, byteIn, pinAt, tickIn, ticksIn, Event}
 
--- ==== What he sees of a pump: the status letter and the diameter; in I and W the running phase, entered or not, and the current rate
+-- ==== What he sees of a pump: the status letter, the diameter and the time limit; in I and W the running phase, entered or not, and the
+-- current rate
 pub record View : Type 0 where
   pub status : ℕ
   pub diameter : ℕ
   pub running : ℕ
   pub phase : Phase
   pub rate : Rate
+  pub limit : ℕ
 
 unfoldable pub viewOf : Pump → View
 viewOf p =
     let run = p .device .core .run in
     let s = statusLetter (statusRun run (hereOf p .direction)) in
-    record { status = s; diameter = p .device .core .syringe .diameter; running = run .place .current; phase = hereOf p; rate = run .rate }
+    record {
+      status = s;
+      diameter = p .device .core .syringe .diameter;
+      running = run .place .current;
+      phase = hereOf p;
+      rate = run .rate;
+      limit = limitOf (p .device .link);
+    }
 
 abbrev pub later : Event → View
 later e = viewOf (e .report .pump)
@@ -32,6 +43,10 @@ stops e = eqb (later e .status) (letter "S")
 
 abbrev pub moves : View → Bool
 moves x = eqb (x .status) (letter "I") || eqb (x .status) (letter "W")
+
+-- Safe mode has a limit of a second or more; 0 is Basic mode   (02, 2/12)
+abbrev pub isSafe : View → Bool
+isSafe x = ltb 0 (x .limit)
 
 -- the number of the phase's function, in the order RAT, INC, DEC, STP, JMP, LOP, LPS, LPE, PAS (whole, tenths), IF, EVN, EVR, BEP, OUT
 abbrev pub kindOf : View → ℕ
@@ -116,7 +131,8 @@ abbrev pub again : ℕ → List Loop → List Loop
 again passes ls = record { begun = newestLoop ls .begun; passes = newestLoop ls .passes + passes } ∷ olderLoops ls
 
 -- ==== The books: the visit under way, those that are over, the loops, whether a trap is set, the level of pin 4, the bytes since the last
--- return, and what was given in each direction since its total was cleared; at power-up nothing, and pin 4 high
+-- return, the packet under way with its bytes since STX, the ticks since the last byte, and what was given in each direction since its
+-- total was cleared; at power-up nothing, and pin 4 high
 pub data Doing : Type 0 where
   nothing : Doing
   visiting : Visit → Doing
@@ -128,10 +144,13 @@ pub record Books : Type 0 where
   pub trap : Bool
   pub four : Bool
   pub line : List ℕ
+  pub packet : Packet
+  pub quiet : ℕ
   pub given : Direction → ℕ
 
 abbrev pub blank : Books
-blank = record { doing = nothing; past = []; loops = []; trap = false; four = true; line = []; given = λ d. 0 }
+blank =
+    record { doing = nothing; past = []; loops = []; trap = false; four = true; line = []; packet = outside; quiet = 0; given = λ d. 0 }
 
 abbrev pub allVisits : Doing → List Visit → List Visit
 allVisits nothing past = past
@@ -142,7 +161,8 @@ abbrev pub isWhole : Doing → Bool
 isWhole nothing = false
 isWhole (visiting w) = ltb 0 (w .volume) && leb (w .volume / w .v) (w .steps)
 
--- ---- a tick in I or W works the visit under way, or enters the phase; many in one call are taken apart first   (01, Ticks and phases)
+-- ---- a tick in I or W works the visit under way, or enters the phase; many in one call are taken apart first; a refused one does neither
+-- (01, Ticks and phases)
 pub data Deed : Type 0 where
   other : Deed
   enters : View → Deed
@@ -151,12 +171,15 @@ pub data Deed : Type 0 where
 abbrev pub deedBy : Doing → View → Call → Deed
 deedBy doing x (byteIn b buffer) = other
 deedBy doing x (pinAt pin level) = other
-deedBy doing x (ticksIn n) = other
-deedBy nothing x tickIn = if moves x then enters x else other
-deedBy (visiting w) x tickIn = if moves x then works w x else other
+deedBy doing x (ticksIn n buffer) = other
+deedBy nothing x (tickIn buffer) = if moves x then enters x else other
+deedBy (visiting w) x (tickIn buffer) = if moves x then works w x else other
+
+abbrev pub isTaken : Event → Bool
+isTaken e = eqb (refusalNumber (e .report .refusal)) 0
 
 abbrev pub deed : Books → Event → Deed
-deed b e = deedBy (b .doing) (viewOf (e .before)) (e .call)
+deed b e = if isTaken e then deedBy (b .doing) (viewOf (e .before)) (e .call) else other
 
 -- the steps that the rules give in direction d: at a working tick, in the direction of the phase, none if the total would pass 10^18
 abbrev pub ruledBy : Direction → ℕ → Deed → ℕ
@@ -185,51 +208,76 @@ madeBy ls trap (enters x) = (
   eqb (kindOf x) 11 || not (eqb (kindOf x) 12) && trap,
 )
 
--- ---- a call: a byte joins the line, which the return, 13, ends; a pin has its level. The line, and whether pin 4 is high
-abbrev pub heard : List ℕ → Bool → Call → List ℕ × Bool
-heard line four (byteIn b buffer) = (if eqb b 13 then [] else line ++ b ∷ [], four)
-heard line four (pinAt pin level) = (line, if eqb pin 4 then eqb level 1 else four)
-heard line four tickIn = (line, four)
-heard line four (ticksIn n) = (line, four)
+-- ---- a call: a pin has its level. In Basic mode a byte joins the line, which the return, 13, ends
+abbrev pub fourAfter : Bool → Call → Bool
+fourAfter four (byteIn b buffer) = four
+fourAfter four (pinAt pin level) = if eqb pin 4 then eqb level 1 else four
+fourAfter four (tickIn buffer) = four
+fourAfter four (ticksIn n buffer) = four
 
--- a line was obeyed: the answer is STX, `00`, the status and ETX. Up to two leading digits of a line are an address   (01, Line and answer)
+abbrev pub lineAfter : List ℕ → Bool → Call → List ℕ
+lineAfter line safe (byteIn b buffer) = if safe then line else if eqb b 13 then [] else line ++ b ∷ []
+lineAfter line safe (pinAt pin level) = line
+lineAfter line safe (tickIn buffer) = line
+lineAfter line safe (ticksIn n buffer) = line
+
+-- in Safe mode it joins the packet, which is over too where no byte came for 500 ticks   (02, 2/12)
+abbrev pub packetAfter : Books → Bool → Bool → Call → Packet
+packetAfter b safe answered (byteIn x buffer) = if safe then packetBy (b .packet) answered x else b .packet
+packetAfter b safe answered (pinAt pin level) = b .packet
+packetAfter b safe answered (tickIn buffer) = if leb 500 (b .quiet + 1) then outside else b .packet
+packetAfter b safe answered (ticksIn n buffer) = b .packet
+
+abbrev pub quietAfter : ℕ → Call → ℕ
+quietAfter quiet (byteIn b buffer) = 0
+quietAfter quiet (pinAt pin level) = quiet
+quietAfter quiet (tickIn buffer) = quiet + 1
+quietAfter quiet (ticksIn n buffer) = quiet
+
+abbrev pub answerData : Event → List ℕ
+answerData e = dataIn (isSafe (viewOf (e .before))) (take (e .report .length) (e .buffer))
+
+-- a command was obeyed: the answer's data are `00` and the status   (01, Line and answer)
 unfoldable pub isObeyed : Event → Bool
-isObeyed e =
-    let answer = take (e .report .length) (e .buffer) in isText (2 ∷ text "00") (take 3 answer) && isText (3 ∷ []) (drop 4 answer)
+isObeyed e = isText (text "00") (take 2 (answerData e)) && eqb (length (answerData e)) 3
 
-abbrev pub pastDigit : List ℕ → List ℕ
-pastDigit [] = []
-pastDigit (c ∷ s) = if leb 48 c && leb c 57 then s else c ∷ s
+-- what a line or a packet asks, behind the address
+abbrev pub asked : Books → Event → List ℕ
+asked b e = pastDigit (pastDigit (if isSafe (viewOf (e .before)) then packetData (b .packet) else characters (b .line)))
 
-abbrev pub asked : Books → List ℕ
-asked b = pastDigit (pastDigit (characters (b .line)))
+-- alarm T stops the pump in this tick, and is sent   (02, 2/12)
+unfoldable pub timedOut : Event → Bool
+timedOut e = isSafe (viewOf (e .before)) && isText (text "00A?T") (answerData e)
 
 unfoldable pub clears : Direction → Books → Event → Bool
-clears d b e = isObeyed e && (isText (ofWay d (text "CLDINF") (text "CLDWDR")) (asked b) || isText (text "*RESET") (asked b))
+clears d b e = isObeyed e && (isText (ofWay d (text "CLDINF") (text "CLDWDR")) (asked b e) || isText (text "*RESET") (asked b e))
 
 -- firing (pin 4 falls with the trap set, not paused; or is low where EVN is entered), RUN n, a stop and alarms drop visit, loops and trap
 abbrev pub firesBy : Books → Event → Deed → Bool
-firesBy b e other = not (heard [] true (e .call) .1) && (b .four && (b .trap && not (eqb (viewOf (e .before) .status) (letter "P"))))
+firesBy b e other = not (fourAfter true (e .call)) && (b .four && (b .trap && not (eqb (viewOf (e .before) .status) (letter "P"))))
 firesBy b e (enters x) = eqb (kindOf x) 11 && not (b .four)
 firesBy b e (works w x) = false
 
 unfoldable pub drops : Books → Event → Bool
-drops b e = firesBy b e (deed b e) || isObeyed e && leads (text "RUN") (asked b) && ltb 3 (length (asked b)) || stops e
+drops b e = firesBy b e (deed b e) || isObeyed e && leads (text "RUN") (asked b e) && ltb 3 (length (asked b e)) || stops e
 
 -- ---- the books behind an event: a refused call leaves them; a visit is over that is whole or dropped; a step counts at v then in force
 unfoldable pub noted : Books → Event → Books
 noted b e =
     let now = doingBy (b .doing) e (deed b e) in
     let over = isWhole now || drops b e in
-    if eqb (refusalNumber (e .report .refusal)) 0
+    let safe = isSafe (viewOf (e .before)) in
+    if isTaken e
     then
     record {
       doing = if over then nothing else now;
       past = if over then allVisits now (b .past) else b .past;
       loops = if drops b e then [] else madeBy (b .loops) (b .trap) (deed b e) .0;
       trap = not (drops b e) && madeBy (b .loops) (b .trap) (deed b e) .1;
-      line = heard (b .line) (b .four) (e .call) .0;
-      four = heard (b .line) (b .four) (e .call) .1;
+      four = fourAfter (b .four) (e .call);
+      line = lineAfter (b .line) safe (e .call);
+      packet = packetAfter b safe (ltb 0 (e .report .length)) (e .call);
+      quiet = quietAfter (b .quiet) (e .call);
       given = λ d. if clears d b e then 0 else b .given d + told d e * stepAt (viewOf (e .before) .diameter);
     }
     else b

@@ -4,7 +4,7 @@ use Rattle.condition3.specs.Terms.{ℕ, _+_, _*_, _≤_, _<_, _≡_, tru
 use Rattle.condition3.specs.Terms.{Direction, Infuse, Withdraw, datum, text, isText, Loop, Pump, loopsOf, Event, Every}
 use Rattle.condition3.specs.Books.{Visit, View, viewOf, kindOf, moves, later, stops, told, ofWay, storedIn, isUsableAt, isWhole}
 use Rattle.condition3.specs.Books.{stillOpen, newestLoop, isLast, Books, visiting, Deed, other, enters, works, deed, doingBy, ruledBy}
-use Rattle.condition3.specs.Books.{isFull, allVisits, asked, blank, noted, books}
+use Rattle.condition3.specs.Books.{isFull, allVisits, asked, timedOut, blank, noted, books}
 
 -- what holds of every event, with the books as they were before it
 abbrev pub Throughout : (Books → Event → Type 0) → Books → List Event → Type 0
@@ -35,13 +35,17 @@ pub record Entry (e : Event) (x : View) (ls : List Loop) : Type 0 where
   pub lop : kindOf x ≡ 5 → later e .running ≡ (if isLast (datum (x .phase .function)) ls then x .running else newestLoop ls .begun) + 1
   pub lpe : kindOf x ≡ 7 → later e .running ≡ newestLoop ls .begun + 1
 
--- a visit is worked in its phase, and is there later unless whole, or the total full; in I and W no byte or pin but *RESET stops the pump
+-- a visit is worked in its phase, and is there later unless whole, or the total full; in I and W no byte or pin but *RESET stops the pump.
+-- Alarm T stops it in any tick, once that has done its work: of what is entered and what is there later nothing is said then
 abbrev pub Goes : Books → Event → Deed → Type 0
-Goes b e other = moves (viewOf (e .before)) ≡ true → stops e ≡ true → isText (text "*RESET") (asked b) ≡ true
-Goes b e (enters x) = Entry e x (b .loops)
+Goes b e other = moves (viewOf (e .before)) ≡ true → stops e ≡ true → isText (text "*RESET") (asked b e) ≡ true
+Goes b e (enters x) = timedOut e ≡ false → Entry e x (b .loops)
 Goes b e (works w x) =
     In w x
-    × (isWhole (doingBy (b .doing) e (works w x)) ≡ false → isFull (b .given (x .phase .direction)) w (x .rate) ≡ false → In w (later e))
+    × (timedOut e ≡ false
+    → isWhole (doingBy (b .doing) e (works w x)) ≡ false
+    → isFull (b .given (x .phase .direction)) w (x .rate) ≡ false
+    → In w (later e))
 
 -- the loops that are stored are those of the books, at most three, no two begun by the same phase
 pub record ThreeLoops (stored ls : List Loop) : Type 0 where

@@ -1,5 +1,6 @@
 -- The names that the books and condition 3 take from elsewhere, passed on: numbers, tests and lists of the library, texts, and the types
--- that the code declares. No definition of the engine's rules is among them but the status, which every answer shows.
+-- that the code declares. No definition of the engine's rules is among them but the status, which every answer shows, and the
+-- time limit, which SAF shows.
 pub use Prim.Native.Nat.{ℕ, _+_, _-_, _*_, _/_, _%_, _≤_, _<_, min}
 pub use mathlib.Core.Path.{_≡_}
 pub use mathlib.Core.Bool.{Bool, true, false, not, _&&_, _||_}
@@ -17,6 +18,7 @@ pub use Rattle.loops.specs.declared.Loop.{Loop}
 pub use Rattle.dispense.specs.declared.rates.Rate.{Rate}
 pub use Rattle.dispense.specs.declared.rates.Rate.the-variants.{NoRate, Current}
 unfoldable pub use Rattle.program.specs.Statuses.{statusRun}
+unfoldable pub use Rattle.link.specs.Link.{limitOf}
 unfoldable pub use Rattle.line.specs.Collected.{characters}
 unfoldable pub use Rattle.line.specs.Spelling.{leads, isText}
 pub use Rattle.answer.specs.Letters.{statusLetter}

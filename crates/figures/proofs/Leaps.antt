@@ -1,14 +1,16 @@
--- Long runs by leaps: a leap is the rest of a timed pause, or one tick. What a tally of leaps says of a pump's core holds of the ticks
--- themselves, sent to the pump as calls.
+-- Long runs by leaps, in Basic mode: a leap is the rest of a timed pause, or one tick. What a tally of leaps says of a pump's core holds
+-- of the ticks themselves, sent to the pump as calls.
 --     tallied     after any number of leaps: the state, and how often a phase was entered
 --     for-ever    where they lead to a stopped pump: the same, however many more ticks go by
 -- Assumes nothing.
-use Prim.Native.Nat.{ℕ, zero, suc, _+_}
+use Prim.Native.Nat.{ℕ, zero, suc, _+_, _≤_}
 use mathlib.Core.Path.{_≡_, refl, sym, ap, ap₂, _∙_, subst}
 use mathlib.Core.Bool.{Bool, true, false, _&&_}
 use mathlib.Core.List.{List, [], _∷_, _++_}
 use native.Mathlib.Nat.{add-zero, zero-add, add-assoc, le-refl}
+use native.Mathlib.Omega.{arith}
 use lib.Dec.{eqb}
+use lib.ListN.{length}
 use Rattle.base.proofs.Choices.{and-false}
 use Rattle.words.specs.declared.phases.Phase.{Phase}
 use Rattle.program.specs.Cores.{withRun}
@@ -21,17 +23,19 @@ use Rattle.program.specs.declared.state.Run.{Run}
 use Rattle.program.specs.declared.state.Work.{Work}
 use Rattle.program.specs.declared.state.Work.the-variants.{Entering, Visiting, Pausing, Waiting}
 use Rattle.tick.specs.Ticks.{tick}
+use Rattle.link.specs.Link.{isSafe}
+use Rattle.answer.specs.Answers.{room}
 use Rattle.pump.specs.Holder.{phaseAt, isSoundPump}
 use Rattle.pump.specs.declared.holder.Pump.{Pump}
 use Rattle.pump.specs.declared.reports.Report.{Report}
-use Rattle.pump.proofs.Kept.{sound-tick}
-use Rattle.statement.specs.Facts.{coreOf, runOf, underWay}
+use Rattle.statement.specs.Facts.{coreOf, linkOf, runOf, underWay}
 use Rattle.statement.specs.Histories.{Call, after, Whole, Event, trace, Every, singleTicks}
 use Rattle.statement.specs.Outcomes.{pumpWithCore}
 use Rattle.statement.proofs.Always.{after-whole}
 use Rattle.statement.proofs.Joining.{after-both, trace-both, ticks-both}
+use Rattle.condition3.specs.Sending.{blankBuffer, ticksOf}
 use Rattle.condition3.proofs.Pauses.{InPause, Passing, behindPause, pause-ends, pause-passes}
-use Rattle.condition3.proofs.Stops.{Standing, stopped-after, stopped-stands}
+use Rattle.condition3.proofs.Stops.{Standing, basic-works, stopped-after, stopped-stands}
 use Rattle.figures.specs.Rows.{isAccepted, tickTaken, entering, entersPhase, oneIf, entries}
 
 -- ---- one leap of a core, with the phases at hand, and the ticks that it stands for
@@ -103,26 +107,31 @@ none-entered phase P none (e ∷ es) h =
 
 -- ---- what a leap says of the ticks that it stands for
 record Leaps (phase : ℕ) (p : Pump) (n : ℕ) (q : Pump) : Type 0 where
-  there : after p (singleTicks n) ≡ q
-  counted : entries phase (trace p (singleTicks n)) ≡ oneIf (entering phase (runOf p))
+  there : after p (ticksOf n) ≡ q
+  counted : entries phase (trace p (ticksOf n)) ≡ oneIf (entering phase (runOf p))
 
-module _ (phase : ℕ) (p : Pump) (w : Whole p) where
+roomy : room ≤ length blankBuffer
+roomy = omega arith
+
+-- in Basic mode, where a tick does its work and no more
+module _ (phase : ℕ) (p : Pump) (w : Whole p) (basic : isSafe (linkOf p) ≡ false) where
   one-tick : Leaps phase p 1 (pumpWithCore p (stepped (p .phases) (coreOf p)))
   unfolding after trace singleTicks entries entersPhase
   one-tick =
       record {
-        there = ap (λ (r : Report). r .pump) (sound-tick p (w .sound));
+        there = ap (λ (r : Report). r .pump) (basic-works p blankBuffer (w .sound) roomy basic);
         counted =
-            ap (λ (r : Report). oneIf (isAccepted r && entering phase (runOf p)) + 0) (sound-tick p (w .sound)) ∙ add-zero _;
+            ap (λ (r : Report). oneIf (isAccepted r && entering phase (runOf p)) + 0) (basic-works p blankBuffer (w .sound) roomy basic)
+            ∙ add-zero _;
       }
 
   pause-leap : (left : ℕ) → runOf p .mode ≡ Running → underWay p ≡ Pausing left → Leaps phase p left (behindPause p)
   pause-leap left m e =
-      let h : InPause p left = record { whole = w; running = m; pausing = e } in
+      let h : InPause p left = record { whole = w; basic = basic; running = m; pausing = e } in
       record {
-        there = pause-ends p left h;
+        there = pause-ends blankBuffer roomy p left h;
         counted =
-            none-entered phase Passing (passing-none phase) (trace p (singleTicks left)) (pause-passes p left left h (le-refl left))
+            none-entered phase Passing (passing-none phase) (trace p (ticksOf left)) (pause-passes blankBuffer roomy p left left h (le-refl left))
             ∙ sym (ap oneIf (pausing-none phase (runOf p) left e));
       }
 
@@ -173,43 +182,43 @@ tallying = 0
 
 -- what a tally says of the ticks that it has used
 pub record True (phase : ℕ) (p : Pump) (t : Tally) : Type 0 where
-  pub there : after p (singleTicks (t .used)) ≡ pumpWithCore p (t .place)
-  pub counted : entries phase (trace p (singleTicks (t .used))) ≡ t .seen
+  pub there : after p (ticksOf (t .used)) ≡ pumpWithCore p (t .place)
+  pub counted : entries phase (trace p (ticksOf (t .used))) ≡ t .seen
 
 -- the same place, when k more ticks have gone by
 abbrev pub waited : Tally → ℕ → Tally
 waited t k = record { place = t .place; used = t .used + k; seen = t .seen }
 
 -- ticks in two parts
-after-ticks : (p : Pump) (m n : ℕ) → after p (singleTicks (m + n)) ≡ after (after p (singleTicks m)) (singleTicks n)
-after-ticks p m n = ap (after p) (ticks-both m n) ∙ after-both p (singleTicks m) (singleTicks n)
+after-ticks : (p : Pump) (m n : ℕ) → after p (ticksOf (m + n)) ≡ after (after p (ticksOf m)) (ticksOf n)
+after-ticks p m n = ap (after p) (ticks-both blankBuffer m n) ∙ after-both p (ticksOf m) (ticksOf n)
 
 entries-ticks :
     (phase : ℕ) (p : Pump) (m n : ℕ)
-    → entries phase (trace p (singleTicks (m + n)))
-    ≡ entries phase (trace p (singleTicks m)) + entries phase (trace (after p (singleTicks m)) (singleTicks n))
+    → entries phase (trace p (ticksOf (m + n)))
+    ≡ entries phase (trace p (ticksOf m)) + entries phase (trace (after p (ticksOf m)) (ticksOf n))
 entries-ticks phase p m n =
-    ap (λ (cs : List Call). entries phase (trace p cs)) (ticks-both m n)
-    ∙ ap (entries phase) (trace-both p (singleTicks m) (singleTicks n))
-    ∙ entries-both phase (trace p (singleTicks m)) (trace (after p (singleTicks m)) (singleTicks n))
+    ap (λ (cs : List Call). entries phase (trace p cs)) (ticks-both blankBuffer m n)
+    ∙ ap (entries phase) (trace-both p (ticksOf m) (ticksOf n))
+    ∙ entries-both phase (trace p (ticksOf m)) (trace (after p (ticksOf m)) (ticksOf n))
 
-module _ (phase : ℕ) (p : Pump) (w : Whole p) where
+module _ (phase : ℕ) (p : Pump) (w : Whole p) (basic : isSafe (linkOf p) ≡ false) where
   whole-there : (t : Tally) → True phase p t → Whole (pumpWithCore p (t .place))
-  whole-there t h = subst Whole (h .there) (after-whole p (singleTicks (t .used)) w)
+  whole-there t h = subst Whole (h .there) (after-whole p (ticksOf (t .used)) w)
 
   next-true : (t : Tally) → True phase p t → True phase p (next phase (p .phases) t)
   unfolding next
   next-true t h =
-      let l = leap-true phase (pumpWithCore p (t .place)) (whole-there t h) in
+      let l = leap-true phase (pumpWithCore p (t .place)) (whole-there t h) basic in
       record {
         there =
             after-ticks p (t .used) (span (t .place .run))
-            ∙ ap (λ (q : Pump). after q (singleTicks (span (t .place .run)))) (h .there)
+            ∙ ap (λ (q : Pump). after q (ticksOf (span (t .place .run)))) (h .there)
             ∙ l .there;
         counted =
             entries-ticks phase p (t .used) (span (t .place .run))
             ∙ ap₂ (λ (a b : ℕ). a + b) (h .counted)
-            (ap (λ (q : Pump). entries phase (trace q (singleTicks (span (t .place .run))))) (h .there) ∙ l .counted);
+            (ap (λ (q : Pump). entries phase (trace q (ticksOf (span (t .place .run))))) (h .there) ∙ l .counted);
       }
 
   onwards-true : (n : ℕ) (t : Tally) → True phase p t → True phase p (onwards phase (p .phases) n t)
@@ -233,11 +242,12 @@ module _ (phase : ℕ) (p : Pump) (w : Whole p) where
       let q : Pump = pumpWithCore p (t .place) in
       let sound : isSoundPump q ≡ true = whole-there t h .sound in
       record {
-        there = after-ticks p (t .used) k ∙ ap (λ (x : Pump). after x (singleTicks k)) (h .there) ∙ stopped-after q sound alarm e k;
+        there =
+            after-ticks p (t .used) k ∙ ap (λ (x : Pump). after x (ticksOf k)) (h .there) ∙ stopped-after q blankBuffer sound roomy basic alarm e k;
         counted =
             entries-ticks phase p (t .used) k
             ∙ ap₂ (λ (a b : ℕ). a + b) (h .counted)
-            (ap (λ (x : Pump). entries phase (trace x (singleTicks k))) (h .there)
-            ∙ none-entered phase Standing (standing-none phase) (trace q (singleTicks k)) (stopped-stands q sound alarm e k))
+            (ap (λ (x : Pump). entries phase (trace x (ticksOf k))) (h .there)
+            ∙ none-entered phase Standing (standing-none phase) (trace q (ticksOf k)) (stopped-stands q blankBuffer sound roomy basic alarm e k))
             ∙ add-zero (t .seen);
       }

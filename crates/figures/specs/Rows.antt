@@ -16,9 +16,9 @@ use Rattle.pump.specs.Holder.{modelPhases, freshPump}
 use Rattle.pump.specs.Reports.{refusalNumber}
 use Rattle.pump.specs.declared.holder.Pump.{Pump}
 use Rattle.pump.specs.declared.reports.Report.{Report}
-use Rattle.statement.specs.Histories.{Call, byteIn, pinAt, tickIn, ticksIn, Event, trace, singleTicks}
+use Rattle.statement.specs.Histories.{Call, byteIn, pinAt, tickIn, ticksIn, Event, trace}
 use Rattle.condition3.specs.Books.{Books, Doing, nothing, visiting, Visit, isWhole, blank, books}
-use Rattle.condition3.specs.Sending.{lines}
+use Rattle.condition3.specs.Sending.{lines, ticksOf}
 
 -- the pump just switched on, from which every row goes   (01, Commands: Power-up)
 abbrev pub atPowerUp : Pump
@@ -66,7 +66,7 @@ oneIf t = if t then 1 else 0
 
 -- ---- f, h, i: the visits in the observer's books, when lines are sent and n ticks go by (specs/Books.antt of condition 3)
 unfoldable pub booksAfter : List String → ℕ → Books
-booksAfter ts n = books blank (trace atPowerUp (lines ts ++ singleTicks n))
+booksAfter ts n = books blank (trace atPowerUp (lines ts ++ ticksOf n))
 
 -- how many are under way; of each that is over, 1 if it ended of itself, else 0, and its steps
 abbrev pub inProgress : Doing → ℕ
@@ -103,8 +103,8 @@ isAccepted r = eqb (refusalNumber (r .refusal)) 0
 abbrev pub isTick : Call → Bool
 isTick (byteIn b buffer) = false
 isTick (pinAt pin level) = false
-isTick tickIn = true
-isTick (ticksIn n) = false
+isTick (tickIn buffer) = true
+isTick (ticksIn n buffer) = false
 
 abbrev pub tickTaken : Event → Bool
 tickTaken e = isTick (e .call) && isAccepted (e .report)
@@ -118,4 +118,4 @@ entries phase (e ∷ es) = oneIf (entersPhase phase e) + entries phase es
 
 abbrev pub visitsPhase : Char → ℕ → List String → ℕ → ℕ → Row
 visitsPhase c phase ts n times =
-    record { mark = letter c; paper = times ∷ []; given = λ k. entries phase (trace atPowerUp (lines ts ++ singleTicks (n + k))) ∷ [] }
+    record { mark = letter c; paper = times ∷ []; given = λ k. entries phase (trace atPowerUp (lines ts ++ ticksOf (n + k))) ∷ [] }

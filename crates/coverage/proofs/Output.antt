@@ -36,7 +36,7 @@ rest p [] b = refl
 rest p (c ∷ a) b = rest (reportAfter p c .pump) a b
 
 -- ---- an item
-pub item-told : (p : Pump) (i : Item) → itemLines p i ≡ itemTold i (trace p (callsOf i))
+pub item-told : (p : Pump) (i : Item) → itemLines p i ≡ itemTold i (trace p (callsOf p i))
 unfolding callsOf itemTold trace someRefused
 item-told p (say s) = ap orEmptyLine (answers-are-told p _)
 item-told p (level pin high) =
@@ -47,20 +47,20 @@ item-told p (elapse n) =
 item-told p noItem = refl
 
 -- ---- lines, and a whole input
-pub lines-told : (p : Pump) (lines : List (List ℕ)) → allLines p lines ≡ linesTold lines (trace p (callsBy lines))
+pub lines-told : (p : Pump) (lines : List (List ℕ)) → allLines p lines ≡ linesTold p lines (trace p (callsBy p lines))
 unfolding allLines linesTold callsBy
 lines-told p [] = refl
 lines-told p (line ∷ lines) =
     let i = itemOf line in
-    let cs = callsOf i in
-    let more = callsBy lines in
+    let cs = callsOf p i in
+    let more = callsBy (after p cs) lines in
     ap₂
     (λ (u v : List ℕ). u ++ v)
     (item-told p i ∙ ap (itemTold i) (sym (front p cs more)))
     (ap (λ (q : Pump). allLines q lines) (item-history p i)
     ∙ lines-told (after p cs) lines
-    ∙ ap (linesTold lines) (sym (rest p cs more)))
+    ∙ ap (linesTold (after p cs) lines) (sym (rest p cs more)))
 
-pub output-is-told : (s : List ℕ) → script s ≡ linesTold (linesOf s) (trace (freshPump modelPhases) (callsIn s))
+pub output-is-told : (s : List ℕ) → script s ≡ linesTold (freshPump modelPhases) (linesOf s) (trace (freshPump modelPhases) (callsIn s))
 unfolding scriptOf callsIn
 output-is-told s = itemised s ∙ lines-told (freshPump modelPhases) (linesOf s)

@@ -15,18 +15,18 @@ use Rattle.pump.specs.Holder.{modelPhases, freshPump}
 use Rattle.pump.specs.declared.holder.Pump.{Pump}
 use Rattle.script.specs.Items.{Item, say, level, elapse, noItem, linesOf, itemOf}
 use Rattle.player.specs.Effects.{pumpSent, pumpAfter, pumpBehind}
-use Rattle.player.specs.Elapsing.{portions, begun, further, afterCalls, elapsed}
+use Rattle.player.specs.Elapsing.{zeros, portions, begun, further, afterCalls, elapsed}
 use Rattle.player.specs.Rigs.{reportOn}
 use Rattle.player.specs.declared.elapsing.Elapsed.{Elapsed}
 use Rattle.player.specs.declared.rigs.Rig.{Rig}
 use Rattle.player.proofs.Itemised.{rig-itemised}
-use Rattle.statement.specs.Histories.{ticksIn, after, trace, tickByTick, Whole}
+use Rattle.statement.specs.Histories.{after, trace, tickByTick, Whole}
 use Rattle.statement.proofs.Always.{model, whole-after}
 use Rattle.statement.proofs.Joining.{after-both}
 use Rattle.condition3.specs.Condition.{Condition3}
 use Rattle.condition3.specs.Sending.{bytesIn}
 use Rattle.condition3.proofs.Theorem.{condition3-here}
-use Rattle.coverage.specs.Calls.{callsOf, callsBy, callsIn, pumpLeft}
+use Rattle.coverage.specs.Calls.{ticksFor, callsOf, callsBy, callsIn, pumpLeft}
 
 -- ---- bytes
 pub bytes-history : (p : Pump) (s : List ℕ) → pumpSent p s ≡ after p (bytesIn s)
@@ -35,17 +35,17 @@ bytes-history p [] = refl
 bytes-history p (b ∷ s) = bytes-history (reportOn p b .pump) s
 
 -- ---- ticks: calls of many, one after the other
-calls-history : (t : Elapsed) (ns : List ℕ) → afterCalls t ns .pump ≡ after (t .pump) (map ticksIn ns)
+calls-history : (t : Elapsed) (ns : List ℕ) → afterCalls t ns .pump ≡ after (t .pump) (map ticksFor ns)
 unfolding afterCalls after
 calls-history t [] = refl
-calls-history t (n ∷ ns) = calls-history (further t (ticksCall (t .pump) n)) ns
+calls-history t (n ∷ ns) = calls-history (further t (ticksCall (t .pump) n zeros)) ns
 
-pub ticks-history : (n : ℕ) (p : Pump) → elapsed n p .pump ≡ after p (map ticksIn (portions n))
+pub ticks-history : (n : ℕ) (p : Pump) → elapsed n p .pump ≡ after p (map ticksFor (portions n p))
 unfolding elapsed
-ticks-history n p = calls-history (begun p) (portions n)
+ticks-history n p = calls-history (begun n p) (portions n p)
 
 -- ---- an item
-pub item-history : (p : Pump) (i : Item) → pumpAfter p i ≡ after p (callsOf i)
+pub item-history : (p : Pump) (i : Item) → pumpAfter p i ≡ after p (callsOf p i)
 unfolding callsOf after
 item-history p (say s) = bytes-history p _
 item-history p (level pin high) = refl
@@ -53,14 +53,14 @@ item-history p (elapse n) = ticks-history n p
 item-history p noItem = refl
 
 -- ---- lines, and a whole input
-pub lines-history : (p : Pump) (lines : List (List ℕ)) → pumpBehind p lines ≡ after p (callsBy lines)
+pub lines-history : (p : Pump) (lines : List (List ℕ)) → pumpBehind p lines ≡ after p (callsBy p lines)
 unfolding pumpBehind callsBy after
 lines-history p [] = refl
 lines-history p (line ∷ lines) =
     let i = itemOf line in
     lines-history (pumpAfter p i) lines
-    ∙ ap (λ (q : Pump). after q (callsBy lines)) (item-history p i)
-    ∙ sym (after-both p (callsOf i) (callsBy lines))
+    ∙ ap (λ (q : Pump). after q (callsBy q lines)) (item-history p i)
+    ∙ sym (after-both p (callsOf p i) (callsBy (after p (callsOf p i)) lines))
 
 pub plays-history : (s : List ℕ) → pumpBehind (freshPump modelPhases) (linesOf s) ≡ after (freshPump modelPhases) (callsIn s)
 unfolding callsIn

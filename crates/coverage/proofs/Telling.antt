@@ -16,60 +16,60 @@ use Rattle.pump.specs.Reports.{isRefused}
 use Rattle.pump.specs.declared.holder.Pump.{Pump}
 use Rattle.script.specs.Items.{elapse}
 use Rattle.player.specs.Effects.{answers}
-use Rattle.player.specs.Elapsing.{portions, begun, further, afterCalls, elapsed}
+use Rattle.player.specs.Elapsing.{zeros, portions, begun, further, afterCalls, elapsed}
 use Rattle.player.specs.Rigs.{reportOn, bufferOn, answerLine}
 use Rattle.player.specs.declared.elapsing.Elapsed.{Elapsed}
-use Rattle.statement.specs.Histories.{Call, ticksIn, reportAfter, Event, eventOf, trace, apart, tickByTick}
+use Rattle.statement.specs.Histories.{Call, reportAfter, Event, eventOf, trace, apart, tickByTick}
 use Rattle.statement.specs.Many.{sumOf}
 use Rattle.statement.proofs.Many.{call-adds}
 use Rattle.condition3.specs.Books.{told}
 use Rattle.condition3.specs.Sending.{bytesIn}
-use Rattle.coverage.specs.Calls.{callsOf}
+use Rattle.coverage.specs.Calls.{ticksFor, callsOf}
 use Rattle.coverage.specs.Telling.{stepsTold, someRefused, answersIn}
 
 -- ---- the counts of calls of many ticks, behind what was counted before them
 infused-told :
-    (t : Elapsed) (ns : List ℕ) → afterCalls t ns .infused ≡ t .infused + stepsTold Infuse (trace (t .pump) (map ticksIn ns))
+    (t : Elapsed) (ns : List ℕ) → afterCalls t ns .infused ≡ t .infused + stepsTold Infuse (trace (t .pump) (map ticksFor ns))
 unfolding afterCalls trace stepsTold
 infused-told t [] = sym (add-zero (t .infused))
 infused-told t (n ∷ ns) =
-    let r = ticksCall (t .pump) n in
+    let r = ticksCall (t .pump) n zeros in
     infused-told (further t r) ns
-    ∙ add-assoc (t .infused) (r .infused) (stepsTold Infuse (trace (r .pump) (map ticksIn ns)))
+    ∙ add-assoc (t .infused) (r .infused) (stepsTold Infuse (trace (r .pump) (map ticksFor ns)))
 
 withdrawn-told :
-    (t : Elapsed) (ns : List ℕ) → afterCalls t ns .withdrawn ≡ t .withdrawn + stepsTold Withdraw (trace (t .pump) (map ticksIn ns))
+    (t : Elapsed) (ns : List ℕ) → afterCalls t ns .withdrawn ≡ t .withdrawn + stepsTold Withdraw (trace (t .pump) (map ticksFor ns))
 unfolding afterCalls trace stepsTold
 withdrawn-told t [] = sym (add-zero (t .withdrawn))
 withdrawn-told t (n ∷ ns) =
-    let r = ticksCall (t .pump) n in
+    let r = ticksCall (t .pump) n zeros in
     withdrawn-told (further t r) ns
-    ∙ add-assoc (t .withdrawn) (r .withdrawn) (stepsTold Withdraw (trace (r .pump) (map ticksIn ns)))
+    ∙ add-assoc (t .withdrawn) (r .withdrawn) (stepsTold Withdraw (trace (r .pump) (map ticksFor ns)))
 
 pub counts-are-sums :
     (n : ℕ) (p : Pump)
-    → (elapsed n p .infused ≡ stepsTold Infuse (trace p (callsOf (elapse n))))
-    × (elapsed n p .withdrawn ≡ stepsTold Withdraw (trace p (callsOf (elapse n))))
+    → (elapsed n p .infused ≡ stepsTold Infuse (trace p (callsOf p (elapse n))))
+    × (elapsed n p .withdrawn ≡ stepsTold Withdraw (trace p (callsOf p (elapse n))))
 unfolding elapsed callsOf
 counts-are-sums n p =
-    let cs = map ticksIn (portions n) in (
-      infused-told (begun p) (portions n) ∙ zero-add (stepsTold Infuse (trace p cs)),
-      withdrawn-told (begun p) (portions n) ∙ zero-add (stepsTold Withdraw (trace p cs)),
+    let cs = map ticksFor (portions n p) in (
+      infused-told (begun n p) (portions n p) ∙ zero-add (stepsTold Infuse (trace p cs)),
+      withdrawn-told (begun n p) (portions n p) ∙ zero-add (stepsTold Withdraw (trace p cs)),
     )
 
 -- ---- their refusals
 refused-told :
-    (t : Elapsed) (ns : List ℕ) → afterCalls t ns .refused ≡ (t .refused || someRefused (trace (t .pump) (map ticksIn ns)))
+    (t : Elapsed) (ns : List ℕ) → afterCalls t ns .refused ≡ (t .refused || someRefused (trace (t .pump) (map ticksFor ns)))
 unfolding afterCalls trace someRefused
 refused-told t [] = sym (or-false (t .refused))
 refused-told t (n ∷ ns) =
-    let r = ticksCall (t .pump) n in
+    let r = ticksCall (t .pump) n zeros in
     refused-told (further t r) ns
-    ∙ or-assoc (t .refused) (isRefused (r .refusal)) (someRefused (trace (r .pump) (map ticksIn ns)))
+    ∙ or-assoc (t .refused) (isRefused (r .refusal)) (someRefused (trace (r .pump) (map ticksFor ns)))
 
-pub refusals-are-told : (n : ℕ) (p : Pump) → elapsed n p .refused ≡ someRefused (trace p (callsOf (elapse n)))
+pub refusals-are-told : (n : ℕ) (p : Pump) → elapsed n p .refused ≡ someRefused (trace p (callsOf p (elapse n)))
 unfolding elapsed callsOf
-refusals-are-told n p = refused-told (begun p) (portions n)
+refusals-are-told n p = refused-told (begun n p) (portions n p)
 
 -- ---- tick by tick
 steps-both : (d : Direction) (a b : List Event) → stepsTold d (a ++ b) ≡ stepsTold d a + stepsTold d b
@@ -104,11 +104,11 @@ steps-apart d p (c ∷ cs) =
 
 pub counts-tick-by-tick :
     (n : ℕ) (p : Pump)
-    → (elapsed n p .infused ≡ stepsTold Infuse (tickByTick (trace p (callsOf (elapse n)))))
-    × (elapsed n p .withdrawn ≡ stepsTold Withdraw (tickByTick (trace p (callsOf (elapse n)))))
+    → (elapsed n p .infused ≡ stepsTold Infuse (tickByTick (trace p (callsOf p (elapse n)))))
+    × (elapsed n p .withdrawn ≡ stepsTold Withdraw (tickByTick (trace p (callsOf p (elapse n)))))
 counts-tick-by-tick n p = (
-  counts-are-sums n p .0 ∙ steps-apart Infuse p (callsOf (elapse n)),
-  counts-are-sums n p .1 ∙ steps-apart Withdraw p (callsOf (elapse n)),
+  counts-are-sums n p .0 ∙ steps-apart Infuse p (callsOf p (elapse n)),
+  counts-are-sums n p .1 ∙ steps-apart Withdraw p (callsOf p (elapse n)),
 )
 
 -- ---- the answers to bytes

@@ -13,7 +13,8 @@ use Rattle.script.specs.Items.{Item, say, level, elapse, noItem, itemOf}
 use Rattle.player.specs.Effects.{orEmptyLine}
 use Rattle.player.specs.Printing.{complaintLine, countsLine}
 use Rattle.player.specs.Rigs.{answerLine}
-use Rattle.statement.specs.Histories.{Event}
+use Rattle.pump.specs.declared.holder.Pump.{Pump}
+use Rattle.statement.specs.Histories.{Event, after}
 use Rattle.condition3.specs.Books.{told}
 use Rattle.coverage.specs.Calls.{callsOf}
 
@@ -40,8 +41,9 @@ itemTold (level pin high) es = if someRefused es then complaintLine else []
 itemTold (elapse n) es = if someRefused es then complaintLine else countsLine n (stepsTold Infuse es) (stepsTold Withdraw es)
 itemTold noItem es = complaintLine
 
--- ---- line by line: the first events, as many as the item has calls, are those of the first line
-unfoldable pub linesTold : List (List ℕ) → List Event → List ℕ
-linesTold [] es = []
-linesTold (line ∷ lines) es =
-    itemTold (itemOf line) (take (length (callsOf (itemOf line))) es) ++ linesTold lines (drop (length (callsOf (itemOf line))) es)
+-- ---- line by line, from a pump: the first events, as many as the item has calls, are those of the first line
+unfoldable pub linesTold : Pump → List (List ℕ) → List Event → List ℕ
+linesTold p [] es = []
+linesTold p (line ∷ lines) es =
+    let calls = callsOf p (itemOf line) in
+    itemTold (itemOf line) (take (length calls) es) ++ linesTold (after p calls) lines (drop (length calls) es)

@@ -15,10 +15,10 @@ use Rattle.pump.specs.declared.holder.Pump.{Pump}
 use Rattle.pump.specs.Reports.{isRefused}
 use Rattle.pump.specs.declared.reports.Report.{Report}
 use Rattle.script.specs.Places.{newline}
-use Rattle.player.specs.Elapsing.{elapsed}
+use Rattle.player.specs.Elapsing.{zeros, elapsed}
 use Rattle.player.specs.declared.elapsing.Elapsed.{Elapsed}
 use Rattle.player.specs.Printing.{Prints, complaintLine, unframed, countsLine}
-use Rattle.player.specs.Rigs.{withPump, zeros, reportOn, bufferOn, answerLine, sentRig, sentLine, sendRig, sendLines}
+use Rattle.player.specs.Rigs.{withPump, reportOn, bufferOn, answerLine, sentRig, sentLine, sendRig, sendLines}
 use Rattle.player.specs.Rigs.{finishRig, finishLines, setRig, setLines, runRig, runLines, rigAfter, printed}
 use Rattle.script.specs.declared.places.Act.{Act}
 use Rattle.player.specs.declared.rigs.Acted.{Acted}

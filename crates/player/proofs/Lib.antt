@@ -3,6 +3,7 @@ pub mod Decimals
 pub mod Prints
 pub mod Answers
 pub mod Acting
+pub mod Done
 pub mod Going
 pub mod Playing
 pub mod Onward

@@ -3,7 +3,6 @@ use Prim.Native.Nat.{ℕ}
 use mathlib.Core.Bool.{Bool, true, false}
 use mathlib.Core.List.{List, [], _∷_, _++_}
 use lib.Dec.{eqb}
-use lib.ListN.{replicate}
 use Rattle.base.specs.If.{if_then_else_}
 use Rattle.pump.specs.Calls.{byteReport, byteBuffer, pinCall}
 use Rattle.pump.specs.Holder.{modelPhases, freshPump}
@@ -11,7 +10,7 @@ use Rattle.pump.specs.Reports.{isRefused}
 use Rattle.pump.specs.declared.holder.Pump.{Pump}
 use Rattle.pump.specs.declared.reports.Report.{Report}
 use Rattle.script.specs.Places.{carriageReturn, newline}
-use Rattle.player.specs.Elapsing.{elapsed}
+use Rattle.player.specs.Elapsing.{zeros, elapsed}
 use Rattle.player.specs.Printing.{complaintLine, unframed, countsLine}
 use Rattle.script.specs.declared.places.Act.{Act}
 use Rattle.script.specs.declared.places.Act.the-variants.{Wait, Send, Finish, Set, Run, Complain}
@@ -26,9 +25,6 @@ abbrev pub withPump : Rig → Pump → Rig
 withPump g p = record { pump = p; replied = g .replied }
 
 -- ---- a byte call: its report, and the buffer that it writes its answer to
-abbrev pub zeros : List ℕ
-zeros = replicate 24 0
-
 unfoldable pub reportOn : Pump → ℕ → Report
 reportOn p b = byteReport p b zeros
 

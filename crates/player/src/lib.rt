@@ -14,6 +14,7 @@ mod rigs;
 
 pub use elapsing::Elapsed;
 pub use elapsing::elapse;
+pub use elapsing::portion;
 pub use feeding::Bench;
 pub use feeding::Fed;
 pub use printing::complaint;

@@ -1,16 +1,16 @@
--- The bytes of a `B` line that are held until it is whole: one more of two digits, and those that are sent.
+-- The bytes of a `B` or `P` line that are held until it is whole: one more of two digits, one more of a text, and those that are sent.
 -- Assumes nothing.
-use Prim.Native.Nat.{ℕ, _+_, _*_, _<_}
+use Prim.Native.Nat.{ℕ, _+_, _*_, _≤_, _<_}
 use mathlib.Core.Path.{_≡_, sym}
 use mathlib.Core.Bool.{true, false, _&&_}
 use mathlib.Core.List.{List}
-use lib.Dec.{ltb}
+use lib.Dec.{leb, ltb}
 use lib.ListN.{length, set}
-use borrow.Author.Tests.{ltb-true}
+use borrow.Author.Tests.{leb-true, ltb-true}
 use Rattle.base.proofs.Choices.{and-left, and-right}
 use Rattle.script.specs.declared.places.Spot.the-variants as spot
-use Rattle.service.specs.Reading.{digitValue, isWhole, wholePlace, wholeHeld}
-use Rattle.service.specs.declared.places.Place.the-variants.{Line, Bytes}
+use Rattle.service.specs.Reading.{digitValue, isWhole, wholePlace, wholeHeld, isKept, textEnd, keptPlace, keptHeld}
+use Rattle.service.specs.declared.places.Place.the-variants.{Line, Bytes, Text}
 
 -- ---- two digits and a place for their byte
 module _ (n high low : ℕ) (held : List ℕ) where
@@ -46,6 +46,32 @@ module _ (n high low : ℕ) (held : List ℕ) where
     broken-held e = rw (sym v) (sym (simp e))
 
 pub ruleset wholes = (whole-place, whole-held, broken-place, broken-held)
+
+-- ---- a byte of a text and a place for it
+module _ (n : ℕ) (held : List ℕ) where
+  module _ (e : (leb n 40 && ltb n (length held)) ≡ true) where
+    pub text-short : n ≤ 40
+    text-short = leb-true n 40 (and-left (leb n 40) (ltb n (length held)) e)
+
+    pub text-free : n < length held
+    text-free = ltb-true n (length held) (and-right (leb n 40) (ltb n (length held)) e)
+
+  module _ (b : ℕ) where
+    pub kept-place : (x : ℕ) → x ≡ textEnd n b → (leb n 40 && ltb n (length held)) ≡ true → Text (n + 1) x ≡ keptPlace n b held
+    unfolding keptPlace isKept
+    kept-place x v e = rw (v, e)
+
+    pub kept-held : (leb n 40 && ltb n (length held)) ≡ true → set held n b ≡ keptHeld n b held
+    unfolding keptHeld isKept
+    kept-held e = sym (simp e)
+
+    pub lost-place : (leb n 40 && ltb n (length held)) ≡ false → Line spot.Bad ≡ keptPlace n b held
+    unfolding keptPlace isKept
+    lost-place e = sym (simp e)
+
+    pub lost-held : (leb n 40 && ltb n (length held)) ≡ false → held ≡ keptHeld n b held
+    unfolding keptHeld isKept
+    lost-held e = sym (simp e)
 
 -- ---- a byte that is sent: of those that are asked for, and of those that there are
 module _ (i n : ℕ) (held : List ℕ) (e : (ltb i n && ltb i (length held)) ≡ true) where

@@ -1,7 +1,7 @@
 -- Lines, from the runs of bytes that make them.
 -- Assumes nothing.
-use Prim.Native.Nat.{ℕ, _+_, _≤_}
-use mathlib.Core.Path.{_≡_, refl, sym}
+use Prim.Native.Nat.{ℕ, _+_, _≤_, _<_}
+use mathlib.Core.Path.{_≡_, refl, sym, ap}
 use mathlib.Core.Bool.{Bool, true, false}
 use mathlib.Core.Logic.{⊎-elim}
 use mathlib.Core.List.{List, [], _∷_, _++_, append-assoc}
@@ -13,13 +13,15 @@ use borrow.Author.Tests.{ne-eqb, eq-eqb}
 use Rattle.base.specs.Wrote.{Wrote}
 use Rattle.base.proofs.Flags.{flag-counted}
 use Rattle.base.proofs.Writing.{wrote-as, wrote-then, wrote-none, wrote-length}
-use Rattle.pump.specs.Calls.{byteReport}
+use Rattle.pump.specs.Calls.{byteReport, ticksCall}
+use Rattle.pump.specs.Reports.{isRefused}
 use Rattle.pump.specs.declared.holder.Pump.{Pump}
 use Rattle.pump.specs.declared.reports.Report.{Report}
 use Rattle.player.specs.Printing.{Prints, complaintLine, decimal}
-use Rattle.player.specs.Rigs.{zeros}
+use Rattle.player.specs.Elapsing.{zeros, portion}
 use Rattle.player.specs.declared.elapsing.Elapsed.{Elapsed}
 use Rattle.player.proofs.Answers.{sized}
+use Rattle.player.proofs.Done.{few-done, some-done, sent-sized}
 use Rattle.player.proofs.Prints.{prints-as}
 use Rattle.service.specs.Printing.{effectsLine, ticksLine, hexLine, byteLine}
 
@@ -89,6 +91,20 @@ module _ (refused : Bool) (answer : List ℕ) where
 -- ---- what the code needs: an answer is short, and what was written is a part of the buffer
 pub answer-few : (p : Pump) (b : ℕ) (r : Report) → r ≡ byteReport p b zeros → r .length ≤ 24
 answer-few p b r e = ⊎-elim (λ z. omega arith) (λ h. h .1) (sized p b r e)
+
+-- a call of ticks for what is left of them: what it sends is short, and it does at least one, where it is not refused, and no more
+module _ (p : Pump) (left n : ℕ) (asked : n ≡ portion left) (r : Report) (e : r ≡ ticksCall p n zeros) where
+  pub packet-few : r .length ≤ 24
+  packet-few = rw e (sent-sized p n zeros)
+
+  pub call-few : r .ticks ≤ left
+  unfolding portion
+  call-few = omega (arith, asked, ap (λ (x : Report). x .ticks) e, few-done p n zeros)
+
+  pub call-some : 0 < left → isRefused (r .refusal) ≡ false → 1 ≤ r .ticks
+  unfolding portion
+  call-some some taken =
+      let one = some-done p n zeros (omega (arith, asked)) (rw e at taken) in omega (arith, ap (λ (x : Report). x .ticks) e, one)
 
 pub part-written : {l m : List ℕ} {i j : ℕ} {v : List ℕ} → Wrote l m i j v → j ≡ length (take j m)
 part-written w = simp length-take (omega (arith, wrote-length w, w .fits))

@@ -1,4 +1,4 @@
--- What the service program prints of ticks and of bytes, a line at a time.   (docs/DECISIONS.md, 37 to 39)
+-- What the service program prints of ticks, of bytes and of packets, a line at a time.   (docs/DECISIONS.md, 37 to 39)
 use Prim.Native.Nat.{ℕ, _+_, _-_, _/_, _%_}
 use mathlib.Core.Bool.{Bool}
 use mathlib.Core.List.{List, [], _∷_, _++_}
@@ -27,7 +27,7 @@ ticksLine n e =
     then complaintLine
     else effectsLine n (e .infused) (e .withdrawn) (e .beeps) (if e .output then 1 else 0)
 
--- ---- the answer to a byte, in hexadecimal: two lower-case digits a byte
+-- ---- the answer to a byte, and a packet that ticks sent, in hexadecimal: two lower-case digits a byte   (02, 2/12)
 unfoldable pub hexDigit : ℕ → ℕ
 hexDigit d = if ltb d 10 then letter "0" + d else letter "a" + (d - 10)
 
@@ -41,6 +41,6 @@ hexBytes (b ∷ s) = hexByte b ++ hexBytes s
 unfoldable pub hexLine : List ℕ → List ℕ
 hexLine answer = hexBytes answer ++ (newline ∷ [])
 
--- a refused call prints `!`, and one without an answer nothing
+-- a refused call prints `!`, one without an answer nothing; so do ticks that sent no packet
 unfoldable pub byteLine : Bool → List ℕ → List ℕ
 byteLine refused answer = if refused then complaintLine else if eqb (length answer) 0 then [] else hexLine answer

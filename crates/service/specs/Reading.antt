@@ -1,14 +1,16 @@
--- What the service program reads of a `B` line: bytes in hexadecimal, two digits each, in either case.   (docs/DECISIONS.md, 37 to 39)
+-- What the service program reads of a `B` line, bytes in hexadecimal, two digits each, in either case, and of a `P` line, the bytes of a
+-- text.   (docs/DECISIONS.md, 37 to 39)
 use Prim.Native.Nat.{ℕ, _+_, _-_, _*_}
 use mathlib.Core.Bool.{Bool, _&&_}
 use mathlib.Core.List.{List}
-use lib.Dec.{leb, ltb}
+use lib.Dec.{eqb, leb, ltb}
 use lib.ListN.{length, set}
 use Rattle.base.specs.If.{if_then_else_}
 use Rattle.base.specs.Text.{letter}
+use Rattle.script.specs.Places.{carriageReturn}
 use Rattle.script.specs.declared.places.Spot.the-variants as spot
 use Rattle.service.specs.declared.places.Place.{Place}
-use Rattle.service.specs.declared.places.Place.the-variants.{Line, Bytes}
+use Rattle.service.specs.declared.places.Place.the-variants.{Line, Bytes, Text}
 
 -- a letter from one up to another
 unfoldable pub spans : ℕ → ℕ → ℕ → Bool
@@ -32,3 +34,17 @@ wholePlace n high b held = if isWhole n high b held then Bytes (n + 1) else Line
 
 unfoldable pub wholeHeld : ℕ → ℕ → ℕ → List ℕ → List ℕ
 wholeHeld n high b held = if isWhole n high b held then set held n (high * 16 + digitValue b) else held
+
+-- ---- a byte of a text, behind n bytes that are held: there is room for the 40 data of a packet, and a return behind them
+unfoldable pub isKept : ℕ → List ℕ → Bool
+isKept n held = leb n 40 && ltb n (length held)
+
+-- where the text ends if the line does: a return that stands last belongs to the line's end
+unfoldable pub textEnd : ℕ → ℕ → ℕ
+textEnd n b = if eqb b carriageReturn then n else n + 1
+
+unfoldable pub keptPlace : ℕ → ℕ → List ℕ → Place
+keptPlace n b held = if isKept n held then Text (n + 1) (textEnd n b) else Line spot.Bad
+
+unfoldable pub keptHeld : ℕ → ℕ → List ℕ → List ℕ
+keptHeld n b held = if isKept n held then set held n b else held

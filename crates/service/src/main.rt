@@ -1,10 +1,11 @@
 // The service program (docs/DECISIONS.md, 37 to 39): items from standard input, one a line, for the service bench, which sees more than
-// the bench program shows: `>` and a text, `E pin level` as there; `B` and bytes in hexadecimal; `T n` with beeps and output level. Later
-// requests give it more items. It is a filter: what an item has to say is written before more is read.
+// the bench program shows: `>` and a text, `E pin level` as there; `B` and bytes in hexadecimal; `P` and a text, as a packet; `T n` with
+// beeps, output level and the packets that ticks sent. Later requests give it more items. It is a filter: what an item has to say is
+// written before more is read.
 //
 //   places    where in a line the input stands, and what a byte asks for there
 //   desk      what is asked for is done to the pump, and printed
-//   printing  lines: what ticks gave, the answer to a byte
+//   printing  lines: what ticks gave, the answer to a byte, a packet that a tick sent
 mod desk;
 mod places;
 mod printing;
@@ -34,7 +35,7 @@ struct Served {
     ended: bool,
 }
 
-// One read, however little it brings. `held` keeps the bytes of a `B` line until the line is whole.
+// One read, however little it brings. `held` keeps the bytes of a `B` or `P` line until the line is whole.
 fn serve(desk: Desk, held: &mut [u8]) -> Served {
     let mut space = io::large_buffer();
     let n = io::count(libc::read(STDIN_FILENO, &mut space), &space);

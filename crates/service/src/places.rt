@@ -1,23 +1,30 @@
 // Where in a line the input stands, and what a byte asks for there. Texts, edges and lines that are no item are read as the bench program
-// reads them (`script`); `T` and `B` lines are read here, since they take what that program's do not.
+// reads them (`script`); `T`, `B` and `P` lines are read here, since they take what that program's do not.
 ghost use mathlib.Core.Path.{_≡_};
-ghost use Rattle.service.specs.Reading.{digitValue, wholePlace, wholeHeld};
+ghost use Prim.Native.Nat.{_≤_};
+ghost use Rattle.service.specs.Reading.{digitValue, wholePlace, wholeHeld, keptPlace, keptHeld, textEnd};
 use script::Act;
 use script::Spot;
 
 // The most ticks that one item may ask for.
 const MOST_TICKS: u32 = 10_000_000;
 
-// What is to be done: what the bench program would do; let so many ticks pass; send so many of the bytes that are held.
+// The most data of a packet: its length, which counts four bytes more, is at most 44 (document 02, 2/12).
+pub const MOST_DATA: usize = 40;
+
+// What is to be done: what the bench program would do; let so many ticks pass; send so many of the bytes that are held, as they are or as
+// the data of a packet.
 pub enum Ask {
     Bench(Act),
     Elapse(u32),
     Bytes(usize),
+    Packet(usize),
 }
 
 // In a line that the bench program has too; behind a `T`, and in its number, with whether a digit came; behind a `B`, between two bytes,
-// with how many are held, and behind the first digit of a byte; behind a return that may belong to the line's end, with what the line then
-// asks for.
+// with how many are held, and behind the first digit of a byte; in the text of a `P` line, with how many bytes are held, and how many of
+// them are the text if the line ends here: a return that stands last then belongs to its end; behind a return that may belong to the end of
+// another line, with what the line then asks for.
 pub enum Place {
     Line(Spot),
     Tick,
@@ -25,6 +32,7 @@ pub enum Place {
     Byte,
     Bytes(usize),
     Half(usize, u8),
+    Text(usize, usize),
     Returned(Ask),
 }
 
@@ -34,10 +42,13 @@ pub struct Turn {
 }
 
 impl Place {
-    // One byte more; a byte of a `B` line is held when it is whole.
+    // One byte more; a byte of a `B` line is held when it is whole, one of a text as it comes.
     pub fn after(self, b: u8, held: &mut [u8]) -> Turn {
         if let Place::Line(spot) = self {
             return in_line(spot, b);
+        }
+        if let Place::Text(n, text) = self {
+            return in_text(n, text, b, held);
         }
         match b {
             b'\n' => Turn {
@@ -62,6 +73,7 @@ impl Place {
         match self {
             Place::Line(spot) => Ask::Bench(spot.input_end()),
             Place::Returned(_) => Ask::Bench(Act::Complain),
+            Place::Text(n, _) => Ask::Packet(n),
             _ => self.asked(),
         }
     }
@@ -122,6 +134,7 @@ fn in_line(spot: Spot, b: u8) -> Turn {
         match b {
             b'T' => return waiting(Place::Tick),
             b'B' => return waiting(Place::Byte),
+            b'P' => return waiting(Place::Text(0, 0)),
             _ => {}
         }
     }
@@ -132,6 +145,17 @@ fn in_line(spot: Spot, b: u8) -> Turn {
         place: Place::Line(place),
         ask: Ask::Bench(act),
     }
+}
+
+// In a text every byte is one of it, up to the newline.
+fn in_text(n: usize, text: usize, b: u8, held: &mut [u8]) -> Turn {
+    if b == b'\n' {
+        return Turn {
+            place: Place::Line(Spot::Start),
+            ask: Ask::Packet(text),
+        };
+    }
+    waiting(kept(n, b, held))
 }
 
 fn waiting(place: Place) -> Turn {
@@ -165,6 +189,28 @@ fn whole(n: usize, high: u8, b: u8, held: &mut [u8]) -> Place
         return Place::Bytes(n + 1);
     }
     Place::Line(Spot::Bad)
+}
+
+// A byte of a text, which is held: the data of a packet, and a return behind them. A text with more is no item.
+fn kept(n: usize, b: u8, held: &mut [u8]) -> Place
+    ensures { λ r. ⌜ (r ≡ keptPlace n b (now (held .entry))) × (now (held .exit) ≡ keptHeld n b (now (held .entry))) ⌝ }
+{
+    if (n <= MOST_DATA) & (n < held.len()) {
+        held[n] = b;
+        return Place::Text(n + 1, text_end(n, b));
+    }
+    Place::Line(Spot::Bad)
+}
+
+// Where the text ends, if the line ends behind this byte of it.
+fn text_end(n: usize, b: u8) -> usize
+    requires { ⌜ n ≤ 40 ⌝ }
+    ensures { λ r. ⌜ r ≡ textEnd n b ⌝ }
+{
+    if b == b'\r' {
+        return n;
+    }
+    n + 1
 }
 
 // The value of a hexadecimal digit in either case; 16 of what is none.

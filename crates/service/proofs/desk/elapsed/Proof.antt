@@ -19,4 +19,5 @@ elapsed-spec =
     (λ c. search needs)
     slice-aggregate-write-all
     (λ c κs. search needs)
+    (λ c κs. search needs)
     (λ c. search needs))

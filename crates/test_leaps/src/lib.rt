@@ -8,7 +8,8 @@ pub extern "C" fn proved_calls(calls: u32, ticks: u32, table: u32) -> u64 {
     let mut steps: u64 = 0;
     let mut i: u32 = 0;
     while i < calls {
-        let report = pump.ticks(ticks);
+        let mut out = [0u8; 24];
+        let report = pump.ticks(ticks, &mut out);
         let next = report.pump;
         pump = next;
         steps += report.infused as u64;

@@ -9,7 +9,8 @@ pub extern "C" fn proved_ticks(ticks: u32, table: u32) -> u64 {
     let mut steps: u64 = 0;
     let mut i: u32 = 0;
     while i < ticks {
-        let report = pump.tick();
+        let mut out = [0u8; 24];
+        let report = pump.tick(&mut out);
         let next = report.pump;
         pump = next;
         steps += report.infused as u64;

@@ -1,4 +1,5 @@
 // What a line asks for, said as the answer that the query of the same name would get.
+use answer::Frame;
 use drive::VolumeUnit;
 use libc::STDOUT_FILENO;
 use line::Line;
@@ -26,7 +27,7 @@ pub fn line(s: &[u8]) {
 // The answer's text, without STX and ETX.
 fn reply(r: Reply) {
     let mut out = [0u8; 24];
-    let n = answer::write(0, Said::Answer(Status::Stopped, r), &mut out);
+    let n = answer::write(Frame::Line, 0, Said::Answer(Status::Stopped, r), &mut out);
     if 2 <= n {
         if n <= 24 {
             let end = n - 1;

@@ -1,4 +1,4 @@
-// A case's line: its name, and the refusals of its eight calls.
+// A case's line: its name, and the refusals of its ten calls.
 use libc::STDOUT_FILENO;
 use pump::Pump;
 use pump::Report;
@@ -15,14 +15,16 @@ pub fn show(name: &[u8], pump: Pump) {
     let mut short = [0u8; 23];
     put(name);
     put(b":");
-    shown(pump.tick());
+    shown(pump.tick(&mut room));
     edge(pump, 2, 0);
     heard(pump, &mut room);
     edge(pump, 9, 7);
     edge(pump, 2, 7);
     heard(pump, &mut short);
-    shown(pump.ticks(1_000));
-    shown(pump.ticks(1_000_001));
+    shown(pump.ticks(1_000, &mut room));
+    shown(pump.ticks(1_000_001, &mut room));
+    shown(pump.tick(&mut short));
+    shown(pump.ticks(1_000_001, &mut short));
     put(b"\n");
 }
 

@@ -35,6 +35,7 @@ proved-ticks-spec =
     μ-loop
     (λ c κs. tt)
     loop-holds
+    (λ c. search needs)
     (λ c κs. search needs)
     (λ c. search needs)
     add-steps

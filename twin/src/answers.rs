@@ -1,14 +1,14 @@
-//! Answers: the text that a command gives back, and its frame on the wire.
+//! Answers: the text that a command gives back, and its frame in Basic mode.
 
 use crate::state::Alarm;
 
-/// A caller's buffer must have this room before a byte is taken.
+/// A caller's buffer must have this room before a byte is taken or a tick done.
 pub const ANSWER_ROOM: usize = 24;
 
-const START: u8 = 2;
-const END: u8 = 3;
+pub const START: u8 = 2;
+pub const END: u8 = 3;
 
-/// A short text built on the stack. The longest answer, that of DIS, has 19 bytes with its frame.
+/// A short text built on the stack. The longest answer, that of DIS, has 17 bytes, and as a packet 22.
 #[derive(Clone, Copy, Debug, Default)]
 pub struct Text {
     bytes: [u8; ANSWER_ROOM],
@@ -59,18 +59,30 @@ impl CommandError {
 
 pub fn command_answer(status: u8, outcome: &Outcome) -> Text {
     match outcome {
-        Ok(data) => framed(status, data.as_bytes()),
-        Err(error) => framed(status, error.name()),
+        Ok(data) => answer(status, data.as_bytes()),
+        Err(error) => answer(status, error.name()),
     }
 }
 
 pub fn alarm_answer(alarm: Alarm) -> Text {
-    framed(b'A', &[b'?', alarm.letter()])
+    answer(b'A', &[b'?', alarm.letter()])
 }
 
-fn framed(status: u8, data: &[u8]) -> Text {
-    let mut text = Text::of(&[START, b'0', b'0', status]);
+/// The answer to a packet that came over the cable damaged.
+pub fn communication_error(status: u8) -> Text {
+    answer(status, b"?COM")
+}
+
+fn answer(status: u8, data: &[u8]) -> Text {
+    let mut text = Text::of(&[b'0', b'0', status]);
     text.push(data);
-    text.push(&[END]);
     text
+}
+
+/// An answer as Basic mode sends it.
+pub fn framed(answer: &Text) -> Vec<u8> {
+    let mut bytes = vec![START];
+    bytes.extend_from_slice(answer.as_bytes());
+    bytes.push(END);
+    bytes
 }

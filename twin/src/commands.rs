@@ -1,6 +1,6 @@
-//! A byte from the line, and the command that a return completes.
+//! A byte from the line, and the command that a return or a whole packet completes.
 
-use crate::answers::{alarm_answer, command_answer, CommandError, Outcome, Text, ANSWER_ROOM};
+use crate::answers::{alarm_answer, command_answer, framed, CommandError, Outcome, Text, ANSWER_ROOM};
 use crate::line::{Line, RETURN};
 use crate::report::{Report, SHORT_BUFFER, UNSOUND};
 use crate::state::Pump;
@@ -13,27 +13,26 @@ impl Pump {
         if out.len() < ANSWER_ROOM {
             return self.refused(SHORT_BUFFER);
         }
+        let answer = if self.safe() { self.packet_byte(byte) } else { self.line_byte(byte) };
+        Report { answer: written(answer, out), ..self.quiet() }
+    }
+
+    fn line_byte(&mut self, byte: u8) -> Option<Vec<u8>> {
         if byte != RETURN {
             self.line.take(byte);
-            return self.quiet();
+            return None;
         }
-        let mut length = 0;
-        if let Some(answer) = self.end_line() {
-            let bytes = answer.as_bytes();
-            length = bytes.len();
-            out[..length].copy_from_slice(bytes);
-        }
-        Report { answer: length, ..self.quiet() }
+        let line = std::mem::take(&mut self.line);
+        Some(framed(&self.answer(&line)?))
     }
 
     /// The checks in their order: address, pending alarm, then what the command itself asks.
-    fn end_line(&mut self) -> Option<Text> {
-        let line = std::mem::take(&mut self.line);
+    pub(crate) fn answer(&mut self, line: &Line) -> Option<Text> {
         let command = line.command()?;
         if let Some(alarm) = self.alarm.take() {
             return Some(alarm_answer(alarm));
         }
-        let outcome = self.obey(&line, command);
+        let outcome = self.obey(line, command);
         Some(command_answer(self.status(), &outcome))
     }
 
@@ -51,6 +50,7 @@ impl Pump {
             [b'F', b'U', b'N', argument @ ..] => self.fun(argument),
             [b'R', b'U', b'N', argument @ ..] => self.run(argument),
             [b'C', b'L', b'D', argument @ ..] => self.cld(argument),
+            [b'S', b'A', b'F', argument @ ..] => self.saf(argument),
             b"STP" => self.stp(),
             b"DIS" => self.dis(),
             b"*RESET" => self.reset(),
@@ -64,4 +64,11 @@ impl Pump {
         }
         Ok(())
     }
+}
+
+/// Writes what is to be sent, if anything, to the caller's buffer; gives its length.
+pub(crate) fn written(sent: Option<Vec<u8>>, out: &mut [u8]) -> usize {
+    let bytes = sent.unwrap_or_default();
+    out[..bytes.len()].copy_from_slice(&bytes);
+    bytes.len()
 }

@@ -19,6 +19,13 @@ impl Line {
         Line { bytes: [0; LINE_LENGTH], length: 0, over_long: false }
     }
 
+    /// The data of a packet, which has room for no more than a line: nothing is dropped or raised.
+    pub fn as_it_came(data: &[u8]) -> Line {
+        let mut line = Line { length: data.len(), ..Line::new() };
+        line.bytes[..data.len()].copy_from_slice(data);
+        line
+    }
+
     /// Takes a byte that does not end the line.
     pub fn take(&mut self, byte: u8) {
         let character = match byte {

@@ -31,6 +31,12 @@ pub fn read_number(text: &[u8]) -> Option<u32> {
     Some(value * [1000, 100, 10, 1][places])
 }
 
+/// Reads one to three digits: the whole seconds of a time limit.
+pub fn read_three_digits(text: &[u8]) -> Option<u16> {
+    let well_formed = (1..=3).contains(&text.len()) && text.iter().all(u8::is_ascii_digit);
+    well_formed.then(|| text.iter().fold(0, |value, digit| 10 * value + u16::from(digit - b'0')))
+}
+
 /// Reads exactly one or two digits: a phase, a count or whole seconds.
 pub fn read_two_digits(text: &[u8]) -> Option<u8> {
     match text {
@@ -73,6 +79,10 @@ pub fn print_number(text: &mut Text, thousandths: u32) {
 
 pub fn print_two_digits(text: &mut Text, n: u8) {
     text.push(&[digit(u32::from(n / 10)), digit(u32::from(n))]);
+}
+
+pub fn print_three_digits(text: &mut Text, n: u8) {
+    text.push(&[digit(u32::from(n / 100)), digit(u32::from(n / 10)), digit(u32::from(n))]);
 }
 
 pub fn digit(n: u32) -> u8 {

@@ -83,12 +83,14 @@ impl Player {
         Some(answers)
     }
 
-    /// So many ticks, by as many calls as they need; a call may end early, so that its report says what is left.
-    /// Gives the sum of the reports; none if a call was refused.
-    pub fn ticks(&mut self, n: u32) -> Option<Report> {
+    /// So many ticks, by as many calls as they need: one that sends a packet ends early, and its report says what is
+    /// left. Gives the sum of the reports and the packets; none if a call was refused.
+    pub fn ticks(&mut self, n: u32) -> Option<(Report, Vec<Vec<u8>>)> {
+        let mut answer = [0; ANSWER_ROOM];
         let mut sum = Report::default();
+        let mut packets = Vec::new();
         loop {
-            let report = self.pump.ticks((n - sum.ticks).min(TICKS_A_CALL_MAX));
+            let report = self.pump.ticks((n - sum.ticks).min(TICKS_A_CALL_MAX), &mut answer);
             if report.refusal != 0 {
                 return None;
             }
@@ -97,8 +99,11 @@ impl Player {
             sum.withdrawn += report.withdrawn;
             sum.beeps += report.beeps;
             sum.output = report.output;
+            if report.answer > 0 {
+                packets.push(answer[..report.answer].to_vec());
+            }
             if sum.ticks == n {
-                return Some(sum);
+                return Some((sum, packets));
             }
         }
     }

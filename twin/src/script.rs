@@ -4,6 +4,8 @@
 const TICKS_MAX: u32 = 10_000_000;
 /// The most bytes of one line.
 const BYTES_MAX: usize = 65_536;
+/// The most bytes of a packet's data.
+const DATA_MAX: usize = 40;
 
 #[derive(Clone, Debug, PartialEq, Eq)]
 pub enum Item<'a> {
@@ -14,6 +16,8 @@ pub enum Item<'a> {
     Ticks(u32),
     /// Bytes as they are, which only the service program sends.
     Bytes(Vec<u8>),
+    /// The data of one good packet, which only the service program sends.
+    Packet(&'a [u8]),
     Bad,
 }
 
@@ -27,6 +31,7 @@ pub fn read_service_item(line: &[u8]) -> Item<'_> {
     let item = match line {
         b"B" => Some(Item::Bytes(Vec::new())),
         [b'B', b' ', rest @ ..] => read_bytes(rest).map(Item::Bytes),
+        [b'P', data @ ..] => (data.len() <= DATA_MAX).then_some(Item::Packet(data)),
         _ => read_common(line, 0),
     };
     item.unwrap_or(Item::Bad)

@@ -5,6 +5,7 @@ use crate::functions::Function;
 use crate::line::{is_kept, LINE_LENGTH};
 use crate::loops::LOOPS_MAX;
 use crate::numbers::{writable, NUMBER_MAX};
+use crate::packet::Packet;
 use crate::program::{is_phase, Phase, PHASES};
 use crate::state::{Mode, Pump, Visit};
 
@@ -14,6 +15,7 @@ impl Pump {
     pub fn is_sound(&self) -> bool {
         self.ranges_sound()
             && self.line_sound()
+            && self.link_sound()
             && self.program.phases.iter().all(phase_sound)
             && self.loops_sound()
             && self.store_sound()
@@ -45,6 +47,16 @@ impl Pump {
         self.line.length <= LINE_LENGTH
             && self.line.characters().iter().all(|&c| is_kept(c))
             && (!self.line.over_long || self.line.length == LINE_LENGTH)
+    }
+
+    /// What belongs to the other mode is not there.
+    fn link_sound(&self) -> bool {
+        if !self.safe() {
+            return self.timer.is_none() && self.packet.is_none();
+        }
+        self.line.length == 0
+            && self.timer.is_none_or(|left| (1..=self.limit_ticks()).contains(&left))
+            && self.packet.as_ref().is_none_or(Packet::is_sound)
     }
 
     fn loops_sound(&self) -> bool {

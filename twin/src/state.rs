@@ -3,6 +3,7 @@
 use crate::drive::CurrentRate;
 use crate::line::Line;
 use crate::loops::Loops;
+use crate::packet::Packet;
 use crate::program::{Direction, Phase, Program};
 
 #[derive(Clone, Copy, Debug, PartialEq, Eq)]
@@ -11,6 +12,8 @@ pub enum Alarm {
     Reset,
     /// The program cannot go on.
     Program,
+    /// No good packet came in time.
+    TimeOut,
 }
 
 #[derive(Clone, Copy, Debug, PartialEq, Eq)]
@@ -39,7 +42,14 @@ pub struct Pins {
 /// each call tests the whole before it trusts any of it.
 #[derive(Clone, Debug, PartialEq, Eq)]
 pub struct Pump {
+    /// Of Basic mode; empty in Safe mode.
     pub line: Line,
+    /// The time limit of Safe mode in seconds; 0 is Basic mode.
+    pub limit: u8,
+    /// Ticks left of the limit; none while it waits for a good packet, and in Basic mode.
+    pub timer: Option<u32>,
+    /// A packet of which a part came, in Safe mode.
+    pub packet: Option<Packet>,
     pub alarm: Option<Alarm>,
     pub mode: Mode,
     /// In micrometres.
@@ -70,6 +80,9 @@ impl Pump {
     pub fn new() -> Pump {
         Pump {
             line: Line::new(),
+            limit: 0,
+            timer: None,
+            packet: None,
             alarm: Some(Alarm::Reset),
             mode: Mode::Stopped,
             diameter: 10_000,
@@ -138,8 +151,12 @@ impl Pump {
     }
 
     pub(crate) fn raise_program_alarm(&mut self) {
+        self.raise_alarm(Alarm::Program);
+    }
+
+    pub(crate) fn raise_alarm(&mut self, alarm: Alarm) {
         self.stop();
-        self.alarm = Some(Alarm::Program);
+        self.alarm = Some(alarm);
     }
 
     /// Goes to a phase that is not entered. A visit leaves nothing of its time store behind.
@@ -178,6 +195,7 @@ impl Alarm {
         match self {
             Alarm::Reset => b'R',
             Alarm::Program => b'E',
+            Alarm::TimeOut => b'T',
         }
     }
 }

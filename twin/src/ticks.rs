@@ -1,37 +1,50 @@
 //! The tick: a thousand a second, each either enters the current phase or works the entered one.
 
+use crate::answers::ANSWER_ROOM;
+use crate::commands::written;
 use crate::drive::{step_target, step_volume, threshold, CurrentRate, TOTAL_MAX};
 use crate::functions::Function;
 use crate::numbers::NUMBER_MAX;
 use crate::program::{Direction, Phase};
-use crate::report::{Report, TOO_MANY_TICKS, UNSOUND};
+use crate::report::{Report, SHORT_BUFFER, TOO_MANY_TICKS, UNSOUND};
 use crate::state::{Pump, Visit};
 
 /// One call does no more ticks than these: a bit more than a quarter of an hour.
 pub const TICKS_A_CALL_MAX: u32 = 1_000_000;
 
 impl Pump {
-    pub fn tick(&mut self) -> Report {
+    pub fn tick(&mut self, out: &mut [u8]) -> Report {
         if !self.is_sound() {
             return self.refused(UNSOUND);
         }
-        self.tick_untested()
+        if out.len() < ANSWER_ROOM {
+            return self.refused(SHORT_BUFFER);
+        }
+        self.tick_untested(out)
     }
 
-    /// So many single ticks one after another. One test of the state serves for all: a tick keeps a sound state sound.
-    pub fn ticks(&mut self, n: u32) -> Report {
+    /// So many single ticks one after another, but none after one that sent a packet. One test of the state serves for
+    /// all: a tick keeps a sound state sound.
+    pub fn ticks(&mut self, n: u32, out: &mut [u8]) -> Report {
         if !self.is_sound() {
             return self.refused(UNSOUND);
+        }
+        if out.len() < ANSWER_ROOM {
+            return self.refused(SHORT_BUFFER);
         }
         if n > TICKS_A_CALL_MAX {
             return self.refused(TOO_MANY_TICKS);
         }
         let mut sum = Report { ticks: n, ..self.quiet() };
-        for _ in 0..n {
-            let report = self.tick_untested();
+        for done in 0..n {
+            let report = self.tick_untested(out);
             sum.infused += report.infused;
             sum.withdrawn += report.withdrawn;
             sum.beeps += report.beeps;
+            if report.answer > 0 {
+                (sum.ticks, sum.answer) = (done + 1, report.answer);
+                break;
+            }
         }
         sum.output = self.output;
         sum
@@ -39,8 +52,9 @@ impl Pump {
 
     /// A tick of a state that is known to be sound; it is sound afterwards too.
     #[inline]
-    fn tick_untested(&mut self) -> Report {
+    fn tick_untested(&mut self, out: &mut [u8]) -> Report {
         let mut report = Report { ticks: 1, ..self.quiet() };
+        let pending = self.alarm;
         if self.operating() && !self.trigger_wait {
             if let Some(visit) = self.visit {
                 self.work_visit(visit, &mut report);
@@ -51,6 +65,11 @@ impl Pump {
             }
         }
         report.output = self.output;
+        if self.safe() {
+            // A pump that moves has no alarm pending, so one that was not there before is new.
+            let sent = self.watch(self.alarm != pending);
+            report.answer = written(sent, out);
+        }
         report
     }
 

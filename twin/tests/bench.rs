@@ -71,3 +71,11 @@ fn long_lines_and_raw_bytes() {
 fn answers_before_the_next_line_is_given() {
     converses(BENCH, &[(">\n", "00A?R\n"), (">PHN\n", "00S01\n"), ("T 5\n", "T 5 I 0 W 0\n")]);
 }
+
+/// A call that ends early is followed by another; what a tick sends is not told here.
+#[test]
+fn ticks_across_an_alarm() {
+    let script = b">\n>RAT 200 MH\n>SAF 1\nE 2 0\nT 2000\n>DIS\n";
+    let steps = 999 * 200_000 / 70_686;
+    assert_eq!(run(script), format!("00A?R\n00S\n00S\nT 2000 I {steps} W 0\n\n"));
+}

@@ -78,7 +78,7 @@ fn l_nested_loops() {
     let mut entries = 0;
     while pump.mode == Mode::Operating {
         let before = pump.pause.is_some();
-        assert_eq!(pump.tick().refusal, 0);
+        assert_eq!(pump.tick(&mut [0; 24]).refusal, 0);
         entries += u32::from(!before && pump.pause.is_some());
     }
     assert_eq!(entries, 1_440);

@@ -9,7 +9,7 @@ use twin::{Mode, Pump, Report, TICKS_A_CALL_MAX};
 fn single(pump: &mut Pump, n: u32) -> Report {
     let mut sum = Report { output: pump.output, ..Report::default() };
     for _ in 0..n {
-        let report = pump.tick();
+        let report = pump.tick(&mut [0; 24]);
         assert_eq!((report.refusal, report.ticks, report.answer), (0, 1, 0));
         sum.ticks += 1;
         sum.infused += report.infused;
@@ -22,7 +22,7 @@ fn single(pump: &mut Pump, n: u32) -> Report {
 
 fn same_as_single(pump: &Pump, n: u32) {
     let (mut one, mut other) = (pump.clone(), pump.clone());
-    assert_eq!(one.ticks(n), single(&mut other, n));
+    assert_eq!(one.ticks(n, &mut [0; 24]), single(&mut other, n));
     assert_eq!(one, other);
 }
 
@@ -66,7 +66,7 @@ fn equal_at_every_length() {
 
 #[test]
 fn sums_and_the_last_level() {
-    let report = busy().ticks(5_000);
+    let report = busy().ticks(5_000, &mut [0; 24]);
     let expected =
         Report { ticks: 5_000, infused: 9 * 50, withdrawn: 9 * 25, beeps: 9, output: 1, ..Report::default() };
     assert_eq!(report, expected);
@@ -76,11 +76,11 @@ fn sums_and_the_last_level() {
 #[test]
 fn rest_in_the_midst() {
     let mut pump = visiting();
-    let report = pump.ticks(1_000);
+    let report = pump.ticks(1_000, &mut [0; 24]);
     assert_eq!((report.ticks, report.infused), (1_000, 39));
     assert_eq!(pump.mode, Mode::Stopped);
     let mut pump = waiting();
-    assert_eq!(pump.ticks(1_000).ticks, 1_000);
+    assert_eq!(pump.ticks(1_000, &mut [0; 24]).ticks, 1_000);
     assert!(pump.trigger_wait);
 }
 
@@ -90,7 +90,7 @@ fn no_tick() {
         let mut given = pump.clone();
         given.output = 1;
         let kept = given.clone();
-        assert_eq!(given.ticks(0), Report { output: 1, ..Report::default() });
+        assert_eq!(given.ticks(0, &mut [0; 24]), Report { output: 1, ..Report::default() });
         assert_eq!(given, kept);
     }
 }
@@ -99,12 +99,12 @@ fn no_tick() {
 fn a_million_and_one_more() {
     assert_eq!(TICKS_A_CALL_MAX, 1_000_000);
     let mut pump = continuous();
-    let report = pump.ticks(1_000_000);
+    let report = pump.ticks(1_000_000, &mut [0; 24]);
     assert_eq!((report.refusal, report.ticks), (0, 1_000_000));
     pump.output = 1;
     let kept = pump.clone();
     for n in [1_000_001, u32::MAX] {
-        assert_eq!(pump.ticks(n), Report { refusal: 5, output: 1, ..Report::default() });
+        assert_eq!(pump.ticks(n, &mut [0; 24]), Report { refusal: 5, output: 1, ..Report::default() });
         assert_eq!(pump, kept);
     }
 }
@@ -115,7 +115,7 @@ fn four_before_five() {
     (pump.diameter, pump.output) = (99, 1);
     let kept = pump.clone();
     for n in [0, 1, 1_000_000, 1_000_001] {
-        assert_eq!(pump.ticks(n), Report { refusal: 4, output: 1, ..Report::default() });
+        assert_eq!(pump.ticks(n, &mut [0; 24]), Report { refusal: 4, output: 1, ..Report::default() });
         assert_eq!(pump, kept);
     }
 }
@@ -126,5 +126,5 @@ fn other_calls_do_no_tick() {
     assert_eq!(pump.byte(13, &mut [0; 24]).ticks, 0);
     assert_eq!(pump.byte(b'X', &mut [0; 24]).ticks, 0);
     assert_eq!(pump.pin(6, 0).ticks, 0);
-    assert_eq!(pump.tick().ticks, 1);
+    assert_eq!(pump.tick(&mut [0; 24]).ticks, 1);
 }

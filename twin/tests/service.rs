@@ -71,3 +71,22 @@ fn bytes_of_one_line() {
 fn answers_before_the_next_line_is_given() {
     converses(SERVICE, &[("B 0d\n", "023030413f5203\n"), (">PHN\n", "00S01\n"), ("T 5\n", "T 5 I 0 W 0 B 0 O 0\n")]);
 }
+
+#[test]
+fn packets() {
+    assert_eq!(run(b">\n>SAF 5\nP\nPSAF\nP5\n"), "00A?R\n00S\n0207303053aaa603\n020a3030533030356b4303\n-\n");
+    // In Basic mode they are bytes of a line, and a length of 13 ends one.
+    assert_eq!(run(b"PDIS\n>\n"), "-\n00A?R\n");
+    assert_eq!(run(b"P123456789\n"), "023030413f5203\n");
+    let longest = format!(">\n>SAF1\nP{}\nP{}\n", "X".repeat(40), "X".repeat(41));
+    assert_eq!(run(longest.as_bytes()), "00A?R\n00S\n02083030533f751c03\n!\n");
+    assert_eq!(run(b"p\n P\n"), "!\n!\n");
+}
+
+#[test]
+fn packets_that_ticks_send() {
+    let alarm = "02093030413f54054003\n";
+    let output = run(b">\n>SAF 1\nT 999\nT 1\nT 5000\nP5\nT 3000\nP\n");
+    let expected = ["00A?R\n00S\n", &told(&[999, 1]), alarm, &told(&[5_000]), "-\n", &told(&[3_000]), alarm, alarm];
+    assert_eq!(output, expected.concat());
+}

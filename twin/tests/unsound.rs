@@ -2,8 +2,11 @@
 
 mod common;
 
+use common::safe::{bytes, safe};
 use common::{awake, continuous, looping, pausing, visiting, waiting};
-use twin::{step_volume, threshold, Alarm, CurrentRate, Function, Loop, Mode, Pump, RateUnit, Report, Visit};
+use twin::{
+    packet, step_volume, threshold, Alarm, CurrentRate, Function, Loop, Mode, Packet, Pump, RateUnit, Report, Visit,
+};
 use twin::{NUMBER_MAX, TOTAL_MAX};
 
 /// Spoils a sound state; every call must then refuse with 4, change nothing and write nothing.
@@ -13,9 +16,10 @@ fn unsound(mut pump: Pump, spoil: impl FnOnce(&mut Pump)) {
     assert!(!pump.is_sound());
     let kept = pump.clone();
     let mut out = [7; 30];
-    let bytes = [pump.byte(13, &mut out), pump.byte(13, &mut [])];
-    let others = [pump.pin(9, 9), pump.pin(2, 0), pump.tick(), pump.ticks(3), pump.ticks(1_000_001)];
-    for report in bytes.into_iter().chain(others) {
+    let taken = [pump.byte(13, &mut out), pump.byte(13, &mut [])];
+    let pins = [pump.pin(9, 9), pump.pin(2, 0)];
+    let ticks = [pump.tick(&mut out), pump.tick(&mut []), pump.ticks(3, &mut out), pump.ticks(1_000_001, &mut [])];
+    for report in taken.into_iter().chain(pins).chain(ticks) {
         assert_eq!(report, Report { refusal: 4, output: kept.output, ..Report::default() });
     }
     assert_eq!(pump, kept);
@@ -130,6 +134,81 @@ fn line_holds_what_a_line_can_keep() {
 fn over_long_only_when_full() {
     unsound(awake(), |p| p.line.over_long = true);
     sound(awake(), |p| (p.line.bytes, p.line.length, p.line.over_long) = ([b'X'; 40], 40, true));
+}
+
+#[test]
+fn basic_mode_has_neither_timer_nor_packet() {
+    unsound(awake(), |p| p.timer = Some(1));
+    unsound(awake(), |p| p.packet = Some(Packet::new()));
+    unsound(safe(5), |p| p.limit = 0);
+    unsound(part(b"DIS", 1), |p| (p.limit, p.timer) = (0, None));
+}
+
+#[test]
+fn safe_mode_has_an_empty_line() {
+    unsound(safe(5), |p| (p.line.bytes[0], p.line.length) = (b'X', 1));
+    unsound(safe(5), |p| p.line.over_long = true);
+    sound(safe(5), |p| p.line.bytes[39] = b'a');
+}
+
+#[test]
+fn timer_within_the_limit() {
+    unsound(safe(5), |p| p.timer = Some(0));
+    unsound(safe(5), |p| p.timer = Some(5_001));
+    unsound(safe(255), |p| p.timer = Some(255_001));
+    for timer in [None, Some(1), Some(5_000)] {
+        sound(safe(5), |p| p.timer = timer);
+    }
+}
+
+#[test]
+fn part_packet_of_a_right_length() {
+    for (length, count) in [(0, 1), (3, 1), (3, 2), (45, 1), (255, 1), (4, 4), (7, 7), (44, 44)] {
+        unsound(part(b"", 0), |p| p.packet = Some(of(length, count)));
+    }
+    for (length, count) in [(4, 1), (4, 2), (7, 5), (44, 1), (44, 42), (0, 0), (3, 0)] {
+        sound(part(b"", 0), |p| p.packet = Some(of(length, count)));
+    }
+}
+
+/// Bytes of a packet without its STX, so many of them.
+fn of(length: u8, count: usize) -> Packet {
+    let mut packet = Packet { count, ..Packet::new() };
+    packet.bytes[0] = length;
+    packet
+}
+
+#[test]
+fn check_right_once_it_is_in() {
+    for place in [1, 3, 4, 5] {
+        unsound(part(b"DIS", 6), |p| p.packet.as_mut().unwrap().bytes[place] ^= 1);
+        sound(part(b"DIS", 5), |p| p.packet.as_mut().unwrap().bytes[place] ^= 1);
+    }
+    // With another length it would be in at another place.
+    unsound(part(b"DIS", 5), |p| p.packet.as_mut().unwrap().bytes[0] = 6);
+}
+
+#[test]
+fn at_most_499_quiet_ticks() {
+    for pump in [part(b"DIS", 0), part(b"DIS", 3), part(b"DIS", 6)] {
+        unsound(pump.clone(), |p| p.packet.as_mut().unwrap().quiet = 500);
+        unsound(pump.clone(), |p| p.packet.as_mut().unwrap().quiet = u16::MAX);
+        sound(pump, |p| p.packet.as_mut().unwrap().quiet = 499);
+    }
+}
+
+#[test]
+fn bytes_that_did_not_come_are_asked_nothing() {
+    sound(part(b"DIS", 3), |p| p.packet.as_mut().unwrap().bytes[42] = 7);
+    sound(part(b"DIS", 0), |p| p.packet.as_mut().unwrap().bytes[0] = 7);
+}
+
+/// In Safe mode, with STX and so many bytes of a packet after it.
+fn part(data: &[u8], count: usize) -> Pump {
+    let mut pump = safe(5);
+    assert_eq!(bytes(&mut pump, &packet(data)[..=count]), Vec::<Vec<u8>>::new());
+    assert_eq!(pump.packet.as_ref().unwrap().count, count);
+    pump
 }
 
 #[test]
@@ -265,7 +344,7 @@ fn total_limit() {
         let mut pump = visiting();
         let v = step_volume(pump.diameter);
         (pump.infused, pump.store) = (TOTAL_MAX - room * v, 0);
-        let report = pump.tick();
+        let report = pump.tick(&mut [0; 24]);
         assert_eq!(report.infused, if taken { 2 } else { 0 });
         assert_eq!(pump.alarm, if taken { None } else { Some(Alarm::Program) });
         assert_eq!(pump.infused, TOTAL_MAX - if taken { 0 } else { v });

@@ -1,14 +1,15 @@
 //! Ticks of the plain engine against the clock, from the same tables as the Rattle crate that tests/speed names.
 
-use twin::{Direction, Function, Mode, Phase, Pump, RateUnit};
+use twin::{Direction, Function, Mode, Phase, Pump, RateUnit, ANSWER_ROOM};
 
 /// The steps infused by that many ticks; all tables infuse.
 #[no_mangle]
 pub extern "C" fn twin_ticks(ticks: u32, table: u32) -> u64 {
     let mut pump = running(table);
+    let mut answer = [0; ANSWER_ROOM];
     let mut steps = 0;
     for _ in 0..ticks {
-        steps += u64::from(pump.tick().infused);
+        steps += u64::from(pump.tick(&mut answer).infused);
     }
     steps
 }
@@ -17,11 +18,29 @@ pub extern "C" fn twin_ticks(ticks: u32, table: u32) -> u64 {
 #[no_mangle]
 pub extern "C" fn twin_calls(calls: u32, ticks: u32, table: u32) -> u64 {
     let mut pump = running(table);
+    let mut answer = [0; ANSWER_ROOM];
     let mut steps = 0;
     for _ in 0..calls {
-        steps += u64::from(pump.ticks(ticks).infused);
+        steps += u64::from(pump.ticks(ticks, &mut answer).infused);
     }
     steps
+}
+
+/// The bytes that so many packets with the query DIA are answered with, in Safe mode.
+#[no_mangle]
+pub extern "C" fn twin_packets(packets: u32) -> u64 {
+    let mut pump = Pump::new();
+    let mut answer = [0; ANSWER_ROOM];
+    for byte in b"\rSAF255\r" {
+        pump.byte(*byte, &mut answer);
+    }
+    let mut said = 0;
+    for _ in 0..packets {
+        for byte in [2, 7, b'D', b'I', b'A', 0x2e, 0xdc, 3] {
+            said += pump.byte(byte, &mut answer).answer as u64;
+        }
+    }
+    said
 }
 
 /// A pump just started on a table.

@@ -16,7 +16,7 @@ fn line(player: &mut Player, line: &[u8]) -> bool {
 }
 
 fn do_ticks(player: &mut Player, ticks: u32) -> bool {
-    let Some(sum) = player.ticks(ticks) else {
+    let Some((sum, _)) = player.ticks(ticks) else {
         return false;
     };
     player.say(format!("T {} I {} W {}", sum.ticks, sum.infused, sum.withdrawn).as_bytes());

@@ -1,8 +1,9 @@
-//! The service program: the bench program's items, bytes in hexadecimal, and ticks with their beeps and the output level.
+//! The service program: the bench program's items, bytes in hexadecimal, packets, and ticks with their beeps, the
+//! output level and the packets they send.
 
 use std::io;
 
-use twin::{play, read_service_item, Item, Player};
+use twin::{packet, play, read_service_item, Item, Player};
 
 fn main() -> io::Result<()> {
     play(line)
@@ -11,6 +12,7 @@ fn main() -> io::Result<()> {
 fn line(player: &mut Player, line: &[u8]) -> bool {
     match read_service_item(line) {
         Item::Bytes(bytes) => send_bytes(player, &bytes),
+        Item::Packet(data) => send_bytes(player, &packet(data)),
         Item::Ticks(ticks) => do_ticks(player, ticks),
         item => player.common(item),
     }
@@ -30,10 +32,13 @@ fn hexadecimal(bytes: &[u8]) -> String {
 }
 
 fn do_ticks(player: &mut Player, ticks: u32) -> bool {
-    let Some(sum) = player.ticks(ticks) else {
+    let Some((sum, packets)) = player.ticks(ticks) else {
         return false;
     };
     let (infused, withdrawn) = (sum.infused, sum.withdrawn);
     player.say(format!("T {} I {infused} W {withdrawn} B {} O {}", sum.ticks, sum.beeps, sum.output).as_bytes());
+    for packet in packets {
+        player.say(hexadecimal(&packet).as_bytes());
+    }
     true
 }

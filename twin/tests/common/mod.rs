@@ -1,6 +1,8 @@
 //! What the tests share: a pump one can talk to, and states in the middle of a run.
 #![allow(dead_code)]
 
+pub mod safe;
+
 use twin::{Pump, ANSWER_ROOM};
 
 /// Sends a command with its return; gives what lies between STX and ETX, empty if there was no answer.
@@ -30,7 +32,7 @@ pub fn set(pump: &mut Pump, commands: &[&str]) {
 pub fn ticks(pump: &mut Pump, count: u32) -> (u32, u32) {
     let mut steps = (0, 0);
     for _ in 0..count {
-        let report = pump.tick();
+        let report = pump.tick(&mut [0; 24]);
         assert_eq!(report.refusal, 0);
         steps = (steps.0 + report.infused, steps.1 + report.withdrawn);
     }

@@ -68,7 +68,7 @@ impl Composer {
         self.line(line);
     }
 
-    fn hexadecimal(&mut self, bytes: &[u8]) {
+    pub fn hexadecimal(&mut self, bytes: &[u8]) {
         let line = spelled(&mut self.random, bytes);
         self.line(line);
     }

@@ -1,6 +1,6 @@
 //! The composer of a script: writes lines, and follows them with a pump of its own.
 
-use twin::{read_item, read_service_item, Item, Mode, Pump, ANSWER_ROOM, TICKS_A_CALL_MAX};
+use twin::{packet, read_item, read_service_item, Item, Mode, Pump, ANSWER_ROOM, TICKS_A_CALL_MAX};
 
 use crate::dress;
 use crate::random::Random;
@@ -10,11 +10,22 @@ pub const RETURN: u8 = 13;
 /// The ticks that the long `T` of a service script may have in all, so that it stays quick to play.
 const MANY_TICKS_MAX: u64 = 2_000_000;
 
+#[derive(Clone, Copy, PartialEq, Eq)]
+pub enum Kind {
+    Bench,
+    /// For the service program, in Basic mode.
+    Service,
+    /// For the service program, and mostly in Safe mode.
+    Safe,
+}
+
 pub struct Composer {
     pub random: Random,
     pub pump: Pump,
     /// Whether the script is for the service program.
     pub service: bool,
+    /// Whether it turns to Safe mode.
+    pub safe: bool,
     /// What is left for the long `T`.
     pub many_ticks: u64,
     /// The phases of the program entered last: its first, and the one past its end.
@@ -28,11 +39,12 @@ pub struct Composer {
 }
 
 impl Composer {
-    pub fn new(seed: u64, wanted: usize, service: bool) -> Composer {
+    pub fn new(seed: u64, wanted: usize, kind: Kind) -> Composer {
         Composer {
             random: Random::new(seed),
             pump: Pump::new(),
-            service,
+            service: kind != Kind::Bench,
+            safe: kind == Kind::Safe,
             many_ticks: MANY_TICKS_MAX,
             first: 1,
             past: 2,
@@ -47,6 +59,9 @@ impl Composer {
     pub fn write(mut self) -> Vec<u8> {
         self.opening();
         while !self.full() {
+            if self.safe && !self.pump.safe() && self.random.percent(85) {
+                self.turn_to_safe_mode();
+            }
             match self.random.weighted(&[55, 30, 12, 3]) {
                 0 => self.enter_program(),
                 1 => self.edit_program(),
@@ -67,6 +82,9 @@ impl Composer {
 
     /// A command on a line of its own.
     pub fn say(&mut self, command: &str) {
+        if self.in_safe_mode() {
+            return self.say_in_packet(command);
+        }
         let text = dress::harmless(&mut self.random, command);
         if self.gathering {
             self.gathered.extend_from_slice(&text);
@@ -76,8 +94,21 @@ impl Composer {
         }
     }
 
+    fn say_in_packet(&mut self, command: &str) {
+        let data = dress::for_packet(&mut self.random, command);
+        if self.gathering {
+            self.gathered.extend(packet(&data));
+        } else {
+            self.send_packet(data);
+        }
+    }
+
+    /// Nothing that is gathered alters the mode, so all of it is packets or all of it lines.
     pub fn send_gathered(&mut self) {
         let mut text = std::mem::take(&mut self.gathered);
+        if self.in_safe_mode() && !text.is_empty() {
+            return self.hexadecimal(&text);
+        }
         // The bench adds the last return.
         if text.pop().is_some() {
             self.text(text);
@@ -85,6 +116,9 @@ impl Composer {
     }
 
     pub fn text(&mut self, text: Vec<u8>) {
+        if self.in_safe_mode() && self.random.percent(95) {
+            return self.send_packet(text);
+        }
         if self.service && self.random.percent(30) {
             return self.send_bytes(text);
         }
@@ -126,13 +160,14 @@ impl Composer {
         match if self.service { read_service_item(line) } else { read_item(line) } {
             Item::Text(text) => self.follow_bytes(text.iter().chain(&[RETURN])),
             Item::Bytes(bytes) => self.follow_bytes(bytes.iter()),
+            Item::Packet(data) => self.follow_bytes(packet(data).iter()),
             Item::Edge(pin, level) => {
                 self.pump.pin(pin, level);
             }
             Item::Ticks(ticks) => {
                 let mut left = ticks;
                 while left > 0 {
-                    let report = self.pump.ticks(left.min(TICKS_A_CALL_MAX));
+                    let report = self.pump.ticks(left.min(TICKS_A_CALL_MAX), &mut [0; ANSWER_ROOM]);
                     assert_eq!(report.refusal, 0);
                     left -= report.ticks;
                 }

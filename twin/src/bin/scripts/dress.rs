@@ -23,6 +23,18 @@ pub fn harmless(random: &mut Random, command: &str) -> Vec<u8> {
     text
 }
 
+/// A command as data of a packet. There nothing is dropped or raised, so a blank or a small letter spoils it.
+pub fn for_packet(random: &mut Random, command: &str) -> Vec<u8> {
+    if random.percent(8) {
+        return harmless(random, command);
+    }
+    let text: Vec<u8> = command.bytes().filter(|&b| b != b' ').collect();
+    if random.percent(8) {
+        return [random.pick(&[&b"0"[..], b"00"]), &text].concat();
+    }
+    text
+}
+
 /// A command for another pump.
 pub fn foreign(random: &mut Random, command: &str) -> Vec<u8> {
     let text: Vec<u8> = command.bytes().collect();

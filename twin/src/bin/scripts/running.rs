@@ -16,6 +16,10 @@ impl Composer {
             if self.full() {
                 return;
             }
+            if self.safe && self.random.percent(22) {
+                self.cable();
+                continue;
+            }
             match self.pump.mode {
                 Mode::Stopped if self.pump.alarm.is_some() && self.random.percent(85) => self.say(""),
                 Mode::Stopped if self.random.percent(25) => return,

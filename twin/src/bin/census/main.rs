@@ -1,9 +1,13 @@
 //! `census [service] SCRIPT...` runs scripts and counts what happened in them, to see that they reach what they should.
 
+mod cable;
+
 use std::collections::BTreeMap;
 use std::io;
 
-use twin::{read_item, read_service_item, Alarm, Function, Item, Mode, Pump, Report, ANSWER_ROOM, TICKS_A_CALL_MAX};
+use twin::{
+    packet, read_item, read_service_item, Alarm, Function, Item, Mode, Pump, Report, ANSWER_ROOM, TICKS_A_CALL_MAX,
+};
 
 const RETURN: u8 = 13;
 
@@ -60,6 +64,10 @@ impl Counts {
                 self.add("B lines");
                 self.bytes(pump, bytes.iter())
             }
+            Item::Packet(data) => {
+                self.add("P lines");
+                self.bytes(pump, packet(data).iter())
+            }
             Item::Edge(pin, level) => self.edge(pump, pin, level),
             Item::Ticks(ticks) => self.ticks(pump, ticks),
             Item::Bad => self.add("bad lines"),
@@ -70,11 +78,16 @@ impl Counts {
         let mut out = [0; ANSWER_ROOM];
         let mut answered = false;
         for &byte in bytes {
+            let before = pump.clone();
             let report = pump.byte(byte, &mut out);
+            // In Safe mode length and check stand around what was said.
+            let (front, behind) = if before.safe() { (2, 3) } else { (1, 1) };
+            let answer = out[..report.answer].get(front..report.answer.saturating_sub(behind)).unwrap_or_default();
             if report.answer > 0 {
                 answered = true;
-                self.answer(&out[1..report.answer - 1]);
+                self.answer(answer);
             }
+            self.cable_byte(&before, pump, byte, answer);
         }
         if !answered {
             self.add("answers: none");
@@ -85,7 +98,7 @@ impl Counts {
         self.add(&format!("status {}", char::from(answer[2])));
         let data = &answer[3..];
         match data {
-            b"?" | b"?NA" | b"?OOR" | b"?R" | b"?E" => self.add(&format!(
+            b"?" | b"?NA" | b"?OOR" | b"?COM" | b"?R" | b"?E" | b"?T" => self.add(&format!(
                 "answers: {}{}",
                 if answer[2] == b'A' { "A" } else { "" },
                 String::from_utf8_lossy(data)
@@ -111,7 +124,7 @@ impl Counts {
     fn ticks(&mut self, pump: &mut Pump, ticks: u32) {
         let (mut steps, mut beeps, output) = (0, 0, pump.output);
         for _ in 0..ticks {
-            let report = self.tick(pump);
+            let report = self.cable_tick(pump, Counts::tick);
             steps += u64::from(report.infused + report.withdrawn);
             beeps += u64::from(report.beeps);
         }
@@ -127,15 +140,17 @@ impl Counts {
 
     fn tick(&mut self, pump: &mut Pump) -> Report {
         if pump.mode != Mode::Operating || pump.trigger_wait {
-            return pump.tick();
+            return pump.tick(&mut [0; ANSWER_ROOM]);
         }
         let (visit, pause) = (pump.visit.is_some(), pump.pause.is_some());
         let phase = phase_name(pump);
         if !visit && !pause {
             self.add(&format!("entered {phase}"));
         }
-        let report = pump.tick();
-        if pump.alarm == Some(Alarm::Program) {
+        let report = pump.tick(&mut [0; ANSWER_ROOM]);
+        if pump.alarm == Some(Alarm::TimeOut) {
+            self.add("runs ended by alarm T");
+        } else if pump.alarm == Some(Alarm::Program) {
             self.add(&if visit {
                 "alarms E in a visit".to_string()
             } else {

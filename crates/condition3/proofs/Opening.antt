@@ -41,6 +41,7 @@ use Rattle.answer.specs.Answers as answers
 use Rattle.pump.specs.Device as device
 use Rattle.pump.specs.Elapsing as elapsing
 use Rattle.pump.specs.Holder as holder
+use Rattle.pump.specs.Arriving as arriving
 use Rattle.pump.specs.Calls as calls
 use Rattle.pump.specs.Reports as reports
 use Rattle.statement.specs.Histories as histories
@@ -73,6 +74,6 @@ unfolding read.isDigit read.isPoint read.plain read.digits read.points read.deci
     judging.judgePhase judging.judgeFunction obeying.settle obeying.setDiameter obeying.tune obeying.setRate obeying.choose
     obeying.clearTotal
     device.isSoundDevice device.setLimit device.obeyed device.ours device.hearText holder.phaseAt holder.withPhase holder.freshPhases holder.isSoundPhases
-    holder.isSoundPump calls.tickCall calls.tickBuffer calls.afterText calls.hear calls.byteReport calls.byteBuffer reports.ofPin reports.ofByte
+    holder.isSoundPump calls.tickCall calls.tickBuffer arriving.arrival calls.afterText calls.hear calls.byteReport calls.byteBuffer reports.ofPin reports.ofByte
     histories.after histories.trace collected.characters elapsing.afterTick elapsing.sent books.viewOf books.isObeyed books.timedOut books.clears books.drops books.noted books.books
 opened = 0

@@ -7,7 +7,7 @@ use mathlib.Core.Logic.{_⊎_, inl, inr, _↔_}
 use mathlib.Core.Bool.{Bool, true, false, _&&_, not}
 use native.Mathlib.Omega.{arith}
 use lib.Dec.{ltb, eqb}
-use borrow.Author.Tests.{lt-ltb, eqb-true, eq-eqb, ne-eqb, eqb-false}
+use borrow.Author.Tests.{lt-ltb, ltb-false, eqb-true, eq-eqb, ne-eqb, eqb-false}
 use Rattle.base.specs.If.{if_then_else_}
 use Rattle.base.proofs.Choices.{false-true, and-right, and-false}
 use Rattle.base.proofs.Each.{and-both}
@@ -28,7 +28,7 @@ use Rattle.link.specs.Link.{isSafe, safeIn, leftIn, ticksLeft, fires, linkTick,
 use Rattle.link.specs.declared.Mode.{Mode as LinkMode}
 use Rattle.link.specs.declared.Mode.the-variants as mode
 use Rattle.link.specs.declared.Link.{Link}
-use Rattle.link.proofs.Theorems.{ticks-left, ticks-safe}
+use Rattle.link.proofs.Theorems.{ticks-basic, ticks-left, ticks-safe}
 use Rattle.pump.specs.Elapsing.{newAlarm, hasAlarm, isAlarmed, timeOut, alarmSaid, afterTick, sent, isDue, reach, isWatched}
 use Rattle.pump.specs.Elapsing.{afterTicks, sentIn}
 use Rattle.pump.specs.Device.{withCore, withLink}
@@ -257,9 +257,23 @@ module _ (v : Device) (n : ℕ) (s : Core) where
             q ∙ ap alarmSaid y ∙ sym (at-end ∙ ap (λ (z : Pending). alarmSaid (newAlarm z (pending (s .run)))) none)
 
   module _ (r : Device) where
-    pub after-none : n ≡ 0 → r ≡ withCore v s → r ≡ afterTicks n v s
+    after-none : n ≡ 0 → r ≡ withCore v s → r ≡ afterTicks n v s
     unfolding afterTicks linkTicks
     after-none e q = q ∙ sym (rw e refl)
+
+    after-basic : isSafe (v .link) ≡ false → r ≡ withCore v s → r ≡ afterTicks n v s
+    unfolding afterTicks
+    after-basic e q =
+        let none = not-due n (ticksLeft (v .link)) (λ h. false-true (sym e ∙ timer-safe (v .link) h)) in
+        q ∙ ap (λ (x : Link). withCore (withLink v x) s) (sym (ticks-basic n (v .link) e)) ∙ sym (simp none)
+
+    -- no tick, or none that the link counts
+    pub after-still : (t : Bool) → t ≡ isSafe (v .link) → (ltb 0 n && t) ≡ false → r ≡ withCore v s → r ≡ afterTicks n v s
+    after-still t is e q = go (ltb 0 n) refl e
+      where
+        go : (u : Bool) → ltb 0 n ≡ u → (u && t) ≡ false → r ≡ afterTicks n v s
+        go true k h = after-basic (sym is ∙ h) q
+        go false k h = let z = ltb-false 0 n k in after-none (omega arith) q
 
     module _ (d : Bool) (due : d ≡ isDue n (v .link)) (l : Link) (ticked : l ≡ linkTicks n (v .link)) where
       pub after-due : (c : Core) → d ≡ true → c ≡ timeOut s → r ≡ withCore (withLink v l) c → r ≡ afterTicks n v s
@@ -276,4 +290,4 @@ module _ (v : Device) (n : ℕ) (s : Core) where
 
 pub ruleset sendings = (sent-basic, sent-due, sent-none, sent-new)
 
-pub ruleset elapsings = (after-none, after-due, after-work)
+pub ruleset elapsings = (after-still, after-due, after-work)

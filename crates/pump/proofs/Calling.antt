@@ -1,7 +1,7 @@
 -- The calls by what was tested and what was called: the pin and the byte, and what each call refuses.
 -- Assumes nothing.
 use Prim.Native.Nat.{ℕ, _+_, _≤_, _<_}
-use mathlib.Core.Path.{_≡_, refl, sym, ap, _∙_}
+use mathlib.Core.Path.{_≡_, refl, sym, ap, _∙_, subst}
 use mathlib.Core.Logic.{_⊎_, inl, inr, ⊎-elim}
 use mathlib.Core.Bool.{Bool, true, false}
 use mathlib.Core.List.{List}
@@ -17,28 +17,37 @@ use Rattle.words.specs.declared.commands.Asked.{Asked}
 use Rattle.words.specs.declared.phases.Phase.{Phase}
 use Rattle.program.specs.Runs.{isOperating}
 use Rattle.program.specs.Statuses.{inHand}
+use Rattle.program.specs.declared.state.Core.{Core}
 use Rattle.program.proofs.Parts.{core-clauses, run-clauses}
 use Rattle.leap.specs.Leaps.{mostTicks}
-use Rattle.line.specs.declared.lines.Line.{Line}
-use Rattle.link.specs.Link.{isSafe, isSoundLink}
+use Rattle.line.specs.Lines.{emptyLine, afterByte}
+use Rattle.line.specs.Requests.{askedIn}
+use Rattle.packet.specs.declared.receiver.Outcome as packet
+use Rattle.packet.specs.declared.receiver.Outcome.the-variants as o
+use Rattle.link.specs.Link.{isSafe, isSoundLink, linkAfter}
 use Rattle.link.specs.declared.Link.{Link}
 use Rattle.answer.specs.Answers.{room, lengthIn, bufferAfter}
 use Rattle.answer.specs.declared.frame.Frame.{Frame}
 use Rattle.answer.specs.declared.frame.Frame.the-variants as frame
 use Rattle.answer.specs.declared.frame.Frame.the-variants.{Packet}
-use Rattle.pump.specs.Calls.{Handy, pinCall, afterText, frameIn, answered, received, receivedBuffer, byteReport, byteBuffer}
-use Rattle.pump.specs.Device.{withLine, withLink, edge, hearText, said}
+use Rattle.pump.specs.Arriving.{arrival, packetArrival, isWhole}
+use Rattle.pump.specs.Calls.{Handy, pinCall, silently, afterText, toldOf, heardIn, hear, frameIn, frameOf, answered, byteReport, byteBuffer}
+use Rattle.pump.specs.Device.{withLine, edge, hearText, said}
 use Rattle.pump.specs.Elapsing.{afterTicks, sentIn}
 use Rattle.pump.specs.Going.{movesIn}
 use Rattle.pump.specs.Holder.{phaseCount, phaseAt, hereOf, withDevice, edited, isSoundPump}
-use Rattle.pump.specs.Reports.{isPin, ofPin, ofByte, ofTicks, isRefused, refused, reported, gone, goneBuffer}
+use Rattle.pump.specs.Reports.{isPin, ofPin, ofByte, ofTicks, isRefused, Outcome, unstepped, gone, goneBuffer}
+use Rattle.pump.specs.declared.arriving.Arrival.{Arrival}
+use Rattle.pump.specs.declared.arriving.Brought.{Brought}
+use Rattle.pump.specs.declared.arriving.Brought.the-variants as brought
+use Rattle.pump.specs.declared.calls.Listened.{Listened}
 use Rattle.pump.specs.declared.device.Device.{Device}
 use Rattle.pump.specs.declared.device.Heard.{Heard}
 use Rattle.pump.specs.declared.holder.Pump.{Pump}
 use Rattle.pump.specs.declared.many.Going.{Going}
 use Rattle.pump.specs.declared.reports.Refusal.{Refusal}
-use Rattle.pump.specs.declared.reports.Refusal.the-variants.{Accepted, ShortBuffer, NoPin, NoLevel, Unsound, TooManyTicks}
 use Rattle.pump.specs.declared.reports.Report.{Report}
+use Rattle.pump.specs.declared.reports.Refusal.the-variants.{Accepted, ShortBuffer, NoPin, NoLevel, Unsound, TooManyTicks}
 use Rattle.pump.proofs.Kept.{pump-core, pump-link}
 
 -- ---- what a sound pump lends to the rules
@@ -49,12 +58,30 @@ module _ (p : Pump) (few : phaseCount p ≤ 99) (e : isSoundPump p ≡ true) whe
       let r = run-clauses (phaseCount p) (p .device .core .run) (c .under-way) in
       record { current-few = omega (arith, few, r .most); chosen-few = omega (arith, few, c .chosen-most) }
 
--- another line, or another link, changes nothing of that
-pub handy-line : (p : Pump) (v : Device) (line : Line) → Handy p → v ≡ withLine (p .device) line → Handy (withDevice p v)
-handy-line p v line h k = rw k (record { current-few = h .current-few; chosen-few = h .chosen-few })
+-- no byte changes anything of that before it is heard
+core-kept : (v : Device) (b : ℕ) → arrival v b .device .core ≡ v .core
+unfolding arrival
+core-kept v b = go (isSafe (v .link)) (linkAfter (v .link) b .outcome) (afterByte (v .line) b .ended)
+  where
+    go : (t : Bool) (x : packet.Outcome) (u : Bool)
+        → (if t
+        then packetArrival v (linkAfter (v .link) b .link) x
+        else (if u
+        then record { device = withLine v emptyLine; brought = brought.Text (askedIn (afterByte (v .line) b .line)) }
+        else record { device = withLine v (afterByte (v .line) b .line); brought = brought.Nothing })) .device .core ≡ v .core
+    go true o.Nothing u = refl
+    go true o.Wrong u = refl
+    go true (o.Good n) u = refl
+    go false x true = refl
+    go false x false = refl
 
-pub handy-link : (p : Pump) (v : Device) (link : Link) → Handy p → v ≡ withLink (p .device) link → Handy (withDevice p v)
-handy-link p v link h k = rw k (record { current-few = h .current-few; chosen-few = h .chosen-few })
+pub handy-behind : (p : Pump) (b : ℕ) (a : Arrival) → Handy p → a ≡ arrival (p .device) b → Handy (withDevice p (a .device))
+handy-behind p b a h e =
+    let k : a .device .core ≡ p .device .core = ap (λ (x : Arrival). x .device .core) e ∙ core-kept (p .device) b in
+    record {
+      current-few = subst (λ (x : Core). x .run .place .current ≤ 100) (sym k) (h .current-few);
+      chosen-few = subst (λ (x : Core). x .chosen ≤ 100) (sym k) (h .chosen-few);
+    }
 
 -- the phase in hand
 hand-few : (p : Pump) → Handy p → (b : Bool) → isOperating (p .device .core .run) ≡ b → inHand (p .device .core) ≤ 100
@@ -172,8 +199,39 @@ byte-ready p u x t size is k tested few h =
     let sound = sym is ∙ byte-sound u size (ap isRefused (sym k) ∙ sym tested ∙ h) in
     (handy p few sound, pump-link p sound)
 
+-- where nothing is said nothing is written
+pub silent-length : (f : Frame) (buffer : List ℕ) → 0 ≡ lengthIn f 0 Nothing buffer
+unfolding lengthIn
+silent-length f buffer = by (leb room (length buffer))
+  where
+    by : (t : Bool) → _≡_ {A = ℕ} 0 (if t then 0 else 0)
+    by true = refl
+    by false = refl
+
+pub silent-buffer : (f : Frame) (buffer : List ℕ) → buffer ≡ bufferAfter f 0 Nothing buffer
+unfolding bufferAfter
+silent-buffer f buffer = by (leb room (length buffer))
+  where
+    by : (t : Bool) → buffer ≡ (if t then buffer else buffer)
+    by true = refl
+    by false = refl
+
+-- ---- what is not refused is accepted; a byte that brings nothing to its end has nothing to be heard
+none-refused : (x : Refusal) → isRefused x ≡ false → x ≡ Accepted
+none-refused Accepted e = refl
+none-refused ShortBuffer e = false-true (sym e)
+none-refused NoPin e = false-true (sym e)
+none-refused NoLevel e = false-true (sym e)
+none-refused Unsound e = false-true (sym e)
+none-refused TooManyTicks e = false-true (sym e)
+
+none-brought : (x : Brought) → isWhole x ≡ false → x ≡ brought.Nothing
+none-brought brought.Nothing e = refl
+none-brought brought.Wrong e = false-true (sym e)
+none-brought (brought.Text asked) e = false-true (sym e)
+
 -- ---- the pin and the byte: refused, or done
-module _ (p : Pump) (u : Bool) (s : u ≡ isSoundPump p) (x : Refusal) (t : Bool) (tested : t ≡ isRefused x) (r : Report) where
+module _ (p : Pump) (u : Bool) (s : u ≡ isSoundPump p) (x : Refusal) (t : Bool) (tested : t ≡ isRefused x) where
   module _ (pin level : ℕ) (k : x ≡ ofPin u pin level) where
     pin-refusal : x ≡ ofPin (isSoundPump p) pin level
     pin-refusal = k ∙ ap (λ (w : Bool). ofPin w pin level) s
@@ -184,14 +242,16 @@ module _ (p : Pump) (u : Bool) (s : u ≡ isSoundPump p) (x : Refusal) (t : Bool
     pub pin-handy : phaseCount p ≤ 99 → t ≡ false → Handy p
     pin-handy few h = handy p few (pin-sound (isSoundPump p) pin level (pin-tested ∙ h))
 
-    pub pin-refused : t ≡ true → r ≡ refused p x → r ≡ pinCall p pin level
+    pub pin-refused : t ≡ true → unstepped p 0 x ≡ pinCall p pin level
     unfolding pinCall
-    pin-refused h q = q ∙ ap (refused p) pin-refusal ∙ sym (simp (pin-tested ∙ h))
+    pin-refused h = ap (unstepped p 0) pin-refusal ∙ sym (simp (pin-tested ∙ h))
 
-    pub pin-done :
-        (v : Device) → t ≡ false → v ≡ edge (p .device) pin (eqb level 1) → r ≡ reported (withDevice p v) 0 → r ≡ pinCall p pin level
+    pub pin-done : (v : Device) → t ≡ false → v ≡ edge (p .device) pin (eqb level 1) → unstepped (withDevice p v) 0 x ≡ pinCall p pin level
     unfolding pinCall
-    pin-done v h e q = q ∙ ap (λ (w : Device). reported (withDevice p w) 0) e ∙ sym (simp (pin-tested ∙ h))
+    pin-done v h e =
+        ap (λ (w : Device). unstepped (withDevice p w) 0 x) e
+        ∙ ap (unstepped (withDevice p (edge (p .device) pin (eqb level 1))) 0) (none-refused x (sym tested ∙ h))
+        ∙ sym (simp (pin-tested ∙ h))
 
   module _ (b : ℕ) (buffer : List ℕ) (k : x ≡ ofByte u (length buffer)) where
     byte-refusal : x ≡ ofByte (isSoundPump p) (length buffer)
@@ -200,35 +260,76 @@ module _ (p : Pump) (u : Bool) (s : u ≡ isSoundPump p) (x : Refusal) (t : Bool
     byte-tested : isRefused (ofByte (isSoundPump p) (length buffer)) ≡ t
     byte-tested = ap isRefused (sym byte-refusal) ∙ sym tested
 
-    pub byte-refused : t ≡ true → r ≡ refused p x → r ≡ byteReport p b buffer
-    unfolding byteReport
-    byte-refused h q = q ∙ ap (refused p) byte-refusal ∙ sym (simp (byte-tested ∙ h))
+    abbrev byteDone : Outcome
+    byteDone = record { report = byteReport p b buffer; buffer = byteBuffer p b buffer }
 
-    pub byte-kept : t ≡ true → buffer ≡ byteBuffer p b buffer
-    unfolding byteBuffer
-    byte-kept h = sym (simp (byte-tested ∙ h))
+    pub byte-refused : t ≡ true → record { report = unstepped p 0 x; buffer = buffer } ≡ byteDone
+    unfolding byteReport byteBuffer
+    byte-refused h =
+        ap (λ (y : Refusal). record { report = unstepped p 0 y; buffer = buffer }) byte-refusal ∙ sym (simp (byte-tested ∙ h))
 
-    module _ (h : t ≡ false) where
-      pub byte-received : r ≡ received p b buffer → r ≡ byteReport p b buffer
-      unfolding byteReport
-      byte-received q = q ∙ sym (simp (byte-tested ∙ h))
+    module _ (h : t ≡ false) (a : Arrival) (e : a ≡ arrival (p .device) b) (w : Bool) (is : w ≡ isWhole (a .brought)) where
+      accepted : x ≡ Accepted
+      accepted = none-refused x (sym tested ∙ h)
 
-      pub byte-written : (after : List ℕ) → after ≡ receivedBuffer p b buffer → after ≡ byteBuffer p b buffer
-      unfolding byteBuffer
-      byte-written after q = q ∙ sym (simp (byte-tested ∙ h))
+      heard-as : heardIn p a ≡ hear p b
+      unfolding hear
+      heard-as = ap (heardIn p) e
 
-pub ruleset bytes-called = (byte-refused, byte-kept, byte-received, byte-written)
+      byte-as :
+          (l : Listened)
+          → l ≡ hear p b
+          → record { report = answered (l .pump) (frameOf p) (l .said) buffer; buffer = bufferAfter (frameOf p) 0 (l .said) buffer }
+          ≡ byteDone
+      unfolding byteReport byteBuffer
+      byte-as l q =
+          ap
+          (λ (y : Listened).
+          record { report = answered (y .pump) (frameOf p) (y .said) buffer; buffer = bufferAfter (frameOf p) 0 (y .said) buffer })
+          q
+          ∙ sym (simp (byte-tested ∙ h))
 
--- ---- what is said is framed
-module _ (l : Link) (f : Frame) (k : f ≡ frameIn l) (x : Said) (buffer : List ℕ) where
-  pub answered-report :
-      (p : Pump) (n : ℕ) (r : Report) → n ≡ lengthIn f 0 x buffer → r ≡ reported p n → r ≡ answered p (frameIn l) x buffer
-  answered-report p n r q e = e ∙ ap (reported p) q ∙ ap (λ (y : Frame). answered p y x buffer) k
+      pub byte-silent : w ≡ false → record { report = unstepped (withDevice p (a .device)) 0 x; buffer = buffer } ≡ byteDone
+      byte-silent z =
+          let quiet : silently (withDevice p (a .device)) ≡ hear p b =
+          sym (ap (toldOf (withDevice p (a .device))) (none-brought (a .brought) (sym is ∙ z))) ∙ heard-as in
+          (λ k.
+          record {
+            report = unstepped (withDevice p (a .device)) (silent-length (frameOf p) buffer k) (accepted k);
+            buffer = silent-buffer (frameOf p) buffer k;
+          })
+          ∙ byte-as _ quiet
 
-  pub answered-buffer : (after : List ℕ) → after ≡ bufferAfter f 0 x buffer → after ≡ bufferAfter (frameIn l) 0 x buffer
-  answered-buffer after e = e ∙ ap (λ (y : Frame). bufferAfter y 0 x buffer) k
+      pub byte-answered :
+          (l : Listened) (f : Frame) (n : ℕ) (after : List ℕ)
+          → l ≡ toldOf (withDevice p (a .device)) (a .brought)
+          → f ≡ frameOf p
+          → n ≡ lengthIn f 0 (l .said) buffer
+          → after ≡ bufferAfter f 0 (l .said) buffer
+          → record { report = unstepped (l .pump) n x; buffer = after } ≡ byteDone
+      byte-answered l f n after q k i j =
+          (λ m. record { report = unstepped (l .pump) (i m) (accepted m); buffer = j m })
+          ∙ ap
+          (λ (y : Frame).
+          record { report = answered (l .pump) y (l .said) buffer; buffer = bufferAfter y 0 (l .said) buffer })
+          k
+          ∙ byte-as l (q ∙ heard-as)
 
-pub ruleset answering = (answered-report, answered-buffer)
+-- what the call hands back, by its parts
+pub byte-parts :
+    (r : Report) (q : Pump) (x : Refusal) (o : Outcome) (ps : List Phase) (v : Device) (n : ℕ) (out ms : List ℕ) (qs : List Phase) (w : Device) (m : ℕ)
+    → r ≡ unstepped q n x
+    → q ≡ record { phases = ps; device = v }
+    → ps ≡ qs
+    → v ≡ w
+    → n ≡ m
+    → out ≡ ms
+    → record { report = unstepped (record { phases = qs; device = w }) m x; buffer = ms } ≡ o
+    → (r ≡ o .report) × (out ≡ o .buffer)
+byte-parts r q x o ps v n out ms qs w m e f a b l k z =
+    let told =
+    e ∙ ap (λ (y : Pump). unstepped y n x) f ∙ (λ i. unstepped (record { phases = a i; device = b i }) (l i) x) in
+    (told ∙ ap (λ (y : Outcome). y .report) z, k ∙ ap (λ (y : Outcome). y .buffer) z)
 
 pub frame-safe : (l : Link) (t : Bool) → t ≡ isSafe l → t ≡ true → Packet ≡ frameIn l
 frame-safe l t e k = sym (simp (sym e ∙ k))
@@ -252,32 +353,14 @@ pub listened-as :
 unfolding afterText
 listened-as p asked n hand next current h held after x full a b d g k q e f = rw (f, e, q, k, g, b, d, a, full)
 
--- where nothing is said nothing is written
-pub silent-length : (f : Frame) (buffer : List ℕ) → 0 ≡ lengthIn f 0 Nothing buffer
-unfolding lengthIn
-silent-length f buffer = by (leb room (length buffer))
-  where
-    by : (t : Bool) → _≡_ {A = ℕ} 0 (if t then 0 else 0)
-    by true = refl
-    by false = refl
-
-pub silent-buffer : (f : Frame) (buffer : List ℕ) → buffer ≡ bufferAfter f 0 Nothing buffer
-unfolding bufferAfter
-silent-buffer f buffer = by (leb room (length buffer))
-  where
-    by : (t : Bool) → buffer ≡ (if t then buffer else buffer)
-    by true = refl
-    by false = refl
-
 -- ---- ticks that are over: what they send is written
 module _ (p : Pump) (g : Going) (n : ℕ) (buffer : List ℕ) (x : Said) (told : x ≡ sentIn n (p .device) (g .core)) where
   pub gone-as :
-      (refusal : Refusal) (size : ℕ) (v : Device) (q : Pump)
+      (refusal : Refusal) (size : ℕ) (v : Device)
       → size ≡ lengthIn Packet 0 x buffer
       → v ≡ afterTicks n (p .device) (g .core)
-      → q ≡ withDevice p v
       → record {
-        pump = q;
+        pump = withDevice p v;
         length = size;
         infused = g .infused;
         withdrawn = g .withdrawn;
@@ -286,7 +369,7 @@ module _ (p : Pump) (g : Going) (n : ℕ) (buffer : List ℕ) (x : Said) (told :
         refusal = refusal;
         output = g .core .output;
       } ≡ gone p (movesIn g) n refusal buffer
-  gone-as refusal size v q a b d = rw (d, b, a, told)
+  gone-as refusal size v a b = rw (b, a, told)
 
   pub gone-written : (after : List ℕ) → after ≡ bufferAfter Packet 0 x buffer → after ≡ goneBuffer p (movesIn g) n buffer
   gone-written after e = e ∙ ap (λ (y : Said). bufferAfter Packet 0 y buffer) told

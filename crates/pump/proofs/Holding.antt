@@ -2,7 +2,8 @@
 -- Assumes nothing.
 use Prim.Native.Nat.{ℕ}
 use mathlib.Core.Path.{_≡_, refl, sym, ap, _∙_}
-use mathlib.Core.Bool.{Bool, true, false, not}
+use mathlib.Core.Bool.{Bool, true, false, not, _&&_}
+use lib.Dec.{eqb}
 use lib.ListN.{set, replicate}
 use Rattle.words.specs.Phases.{powerUp}
 use Rattle.words.specs.declared.phases.Phase.{Phase}
@@ -13,21 +14,26 @@ use Rattle.pump.specs.Holder.{phaseCount, hereOf, freshPump, edited, isS
 use Rattle.pump.specs.declared.device.Device.{Device}
 use Rattle.pump.specs.declared.holder.Pump.{Pump}
 
--- ---- the whole tested
-module _ (p : Pump) (b : Bool) (k : b ≡ isSoundPhases (phaseCount p) (p .phases)) where
-  pub whole-sound :
-      {count : ℕ} (here : Phase) (device : Bool)
-      → phaseCount p ≡ count
-      → b ≡ true
-      → here ≡ hereOf p
-      → device ≡ isSoundDevice count (p .device) here
-      → device ≡ isSoundPump p
-  unfolding isSoundPump
-  whole-sound here device full e h v = rw (v, h, sym full) (simp (sym k ∙ e))
+and-comm : (t u : Bool) → (t && u) ≡ (u && t)
+and-comm true true = refl
+and-comm true false = refl
+and-comm false true = refl
+and-comm false false = refl
 
-  pub phase-unsound : b ≡ false → false ≡ isSoundPump p
-  unfolding isSoundPump
-  phase-unsound e = simp (sym k ∙ e)
+-- ---- the whole tested: the device, and the phases down to the first
+pub whole-sound :
+    {count : ℕ} (p : Pump) (i : ℕ) (here : Phase) (fit : Bool)
+    → phaseCount p ≡ count
+    → eqb i 0 ≡ isSoundPhases (phaseCount p) (p .phases)
+    → here ≡ hereOf p
+    → fit ≡ isSoundDevice count (p .device) here
+    → (fit && eqb i 0) ≡ isSoundPump p
+unfolding isSoundPump
+whole-sound p i here fit full e h v =
+    ap (λ (t : Bool). t && eqb i 0)
+    (v ∙ ap (isSoundDevice _ (p .device)) h ∙ sym (ap (λ (k : ℕ). isSoundDevice k (p .device) (hereOf p)) full))
+    ∙ ap (λ (t : Bool). isSoundDevice (phaseCount p) (p .device) (hereOf p) && t) e
+    ∙ and-comm (isSoundDevice (phaseCount p) (p .device) (hereOf p)) (isSoundPhases (phaseCount p) (p .phases))
 
 -- ---- power-up
 pub fresh-as :

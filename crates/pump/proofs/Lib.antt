@@ -8,4 +8,4 @@ mod Phases
 mod Holding
 mod Hearing
 pub mod Calling
-mod Arriving
+mod Arrivals

@@ -8,11 +8,11 @@ use mathlib.Core.List.{List, [], _∷_}
 use native.Mathlib.Nat.{le-of-suc-le-suc, not-suc-le-zero}
 use native.Mathlib.Numerals.{add-one}
 use native.Mathlib.Omega.{arith}
-use lib.Dec.{leb}
+use lib.Dec.{leb, eqb}
 use lib.ListN.{length, getD, drop, set, List·getD-eq-default}
 use lib.Seq.{drop-cons}
-use borrow.Author.Tests.{leb-true, leb-false}
-use Rattle.base.proofs.Choices.{and-left, and-right, false-true}
+use borrow.Author.Tests.{leb-true, leb-false, eq-eqb, ne-eqb}
+use Rattle.base.proofs.Choices.{and-left, and-right, and-false, false-true}
 use Rattle.drive.specs.declared.rates.RateUnit.the-variants.{Um}
 use Rattle.drive.specs.declared.directions.Direction.the-variants.{Infuse}
 use Rattle.words.specs.Functions.{isPhase}
@@ -82,7 +82,7 @@ module _ {count : ℕ} (p : Pump) (n : ℕ) (x : Phase) (full : phaseCount p ≡
   unfolding withPhase
   set-past e = sym (simp (ap (λ (k : ℕ). isPhase k n) full ∙ e))
 
--- ---- every phase tested, from the first on
+-- ---- every phase tested, from the last on
 -- what is read past the end of an array of phases: each field's first value
 abbrev pub zeroPhase : Phase
 zeroPhase = record { rate = 0; volume = 0; function = f.Rat; unit = Um; direction = Infuse }
@@ -101,25 +101,50 @@ sound-rest count [] (suc i) h = refl
 sound-rest count (p ∷ ps) zero h = absurd (not-suc-le-zero h)
 sound-rest count (p ∷ ps) (suc i) h = sound-rest count ps i (le-of-suc-le-suc h)
 
+and-true : (t : Bool) → (t && true) ≡ t
+and-true true = refl
+and-true false = refl
+
+-- one that is not sound is enough
+drop-unsound : (count : ℕ) (ps : List Phase) (i : ℕ) → isSoundPhases count (drop i ps) ≡ false → isSoundPhases count ps ≡ false
+unfolding isSoundPhases
+drop-unsound count ps zero e = e
+drop-unsound count [] (suc i) e = e
+drop-unsound count (p ∷ ps) (suc i) e =
+    ap (λ (t : Bool). isSoundPhase count p && t) (drop-unsound count ps i e) ∙ and-false (isSoundPhase count p)
+
+-- those behind the first i are sound
 pub record Tested (count : ℕ) (ps : List Phase) (i : ℕ) : Type 0 where
   pub inside : i ≤ count
-  pub rest : isSoundPhases count ps ≡ isSoundPhases count (drop i ps)
+  pub rest : isSoundPhases count (drop i ps) ≡ true
 
-pub tested-none : (count : ℕ) (ps : List Phase) → Tested count ps 0
-tested-none count ps = record { inside = omega arith; rest = refl }
+module _ {count : ℕ} (ps : List Phase) (full : length ps ≡ count) where
+  pub tested-none : Tested count ps count
+  tested-none = record { inside = omega arith; rest = sound-rest count ps count (omega (arith, full)) }
 
--- all of them are tested for the number that there are
-module _ {count : ℕ} (ps : List Phase) (i : ℕ) (full : length ps ≡ count) (m : Tested count ps i) where
+  -- all of them are tested for the number that there are
   as-many : isSoundPhases (length ps) ps ≡ isSoundPhases count ps
   as-many = ap (λ (k : ℕ). isSoundPhases k ps) full
 
-  module _ (h : i < count) (r : Bool) (p : r ≡ isSoundPhase count (getD ps i zeroPhase)) where
-    pub tested-more : r ≡ true → Tested count ps (i + 1)
-    tested-more e =
-        record { inside = omega arith; rest = m .rest ∙ sound-step count ps i (omega (arith, full)) ∙ simp (sym p ∙ e) }
+  module _ (i : ℕ) (m : Tested count ps i) where
+    module _ (h : 0 < i) (r : Bool) (p : r ≡ isSoundPhase count (getD ps (i - 1) zeroPhase)) where
+      one-more : isSoundPhases count (drop (i - 1) ps) ≡ r
+      one-more =
+          let e : i - 1 + 1 ≡ i = omega arith in
+          sound-step count ps (i - 1) (omega (arith, full, m .inside))
+          ∙ ap (λ (k : ℕ). isSoundPhase count (getD ps (i - 1) zeroPhase) && isSoundPhases count (drop k ps)) e
+          ∙ ap (λ (t : Bool). isSoundPhase count (getD ps (i - 1) zeroPhase) && t) (m .rest)
+          ∙ and-true (isSoundPhase count (getD ps (i - 1) zeroPhase))
+          ∙ sym p
 
-    pub one-unsound : r ≡ false → false ≡ isSoundPhases (length ps) ps
-    one-unsound e = sym (as-many ∙ m .rest ∙ sound-step count ps i (omega (arith, full)) ∙ simp (sym p ∙ e))
+      pub tested-more : r ≡ true → Tested count ps (i - 1)
+      tested-more e = record { inside = omega (arith, m .inside); rest = one-more ∙ e }
 
-  pub tested-all : count ≤ i → true ≡ isSoundPhases (length ps) ps
-  tested-all h = sym (as-many ∙ m .rest ∙ sound-rest count ps i (omega (arith, full)))
+      pub one-unsound : r ≡ false → eqb i 0 ≡ isSoundPhases (length ps) ps
+      one-unsound e =
+          ne-eqb i 0 (λ z. omega (arith, z)) ∙ sym (as-many ∙ drop-unsound count ps (i - 1) (one-more ∙ e))
+
+    pub all-sound : i ≤ 0 → eqb i 0 ≡ isSoundPhases (length ps) ps
+    all-sound h =
+        let e : i ≡ 0 = omega arith in
+        eq-eqb i 0 e ∙ sym (as-many ∙ sym (ap (λ (k : ℕ). isSoundPhases count (drop k ps)) e) ∙ m .rest)

@@ -46,8 +46,9 @@ use Rattle.pump.specs.declared.reports.Refusal.{Refusal}
 use Rattle.pump.specs.declared.reports.Refusal.the-variants.{Accepted, ShortBuffer, Unsound}
 use Rattle.pump.specs.declared.reports.Report.{Report}
 use Rattle.pump.proofs.Alarms as alarms
-use Rattle.pump.proofs.Alarms.{Quiet, resting, quiet-none, quiet-before, quiet-sent, quiet-device, next-device, next-sent, calm-before}
+use Rattle.pump.proofs.Alarms.{Quiet, resting, quiet-none, quiet-before, quiet-sent, quiet-device, next-device, next-sent}
 use Rattle.pump.proofs.Calling.{Taken, many-taken, silent-length, silent-buffer}
+use Rattle.pump.proofs.Holding.{not-false}
 use Rattle.pump.proofs.Kept.{withPumpCore, pump-phases, pump-core, pump-line, pump-link, pump-apart, pump-sound, table-here, core-sound}
 
 abbrev look : Pump → ℕ → Phase
@@ -229,24 +230,25 @@ ran-none p n g here e h =
       beeps-few = omega arith;
     })
 
--- ---- no alarm is pending that would be sent: at the start, and where the code has looked
-pub calm-none :
-    (p : Pump) (n : ℕ) (g : Going)
-    → g ≡ record { core = p .device .core; left = n; infused = 0; withdrawn = 0; beeps = 0 }
-    → isWatched (p .device) ≡ true
-    → pending (g .core .run) ≡ NoAlarm
-calm-none p n g e w =
-    ap (λ (x : Going). pending (x .core .run)) e
-    ∙ alarms.not-raised (pending (p .device .core .run)) (and-right (isSafe (p .device .link)) (not (isAlarmed (p .device .core))) w)
+-- ---- no alarm that would be sent was pending before the last of the ticks that are done
+abbrev pub Calm : Pump → ℕ → Going → Type 0
+Calm p n g = 0 < n - g .left → isWatched (p .device) ≡ true → pending (moves p (n - g .left - 1) .core .run) ≡ NoAlarm
 
-pub calm-on :
+pub calm-none :
+    (p : Pump) (n : ℕ) (g : Going) → g ≡ record { core = p .device .core; left = n; infused = 0; withdrawn = 0; beeps = 0 } → Calm p n g
+calm-none p n g e h w =
+    let all : g .left ≡ n = ap (λ (x : Going). x .left) e in
+    absurd (omega (arith, h, all))
+
+-- none is pending where the code has looked
+pub calm-at :
     (p : Pump) (s : Core) (watched alarmed : Bool)
     → watched ≡ isWatched (p .device)
     → alarmed ≡ isAlarmed s
     → (watched && alarmed) ≡ false
     → isWatched (p .device) ≡ true
     → pending (s .run) ≡ NoAlarm
-calm-on p s watched alarmed e k h w =
+calm-at p s watched alarmed e k h w =
     alarms.not-raised (pending (s .run)) (ap not (sym k ∙ ap (λ (t : Bool). t && alarmed) (sym w ∙ sym e) ∙ h))
 
 module _ (p : Pump) (n : ℕ) (g : Going) (here : Phase) (ran : Ran p n g here) where
@@ -269,6 +271,12 @@ module _ (p : Pump) (n : ℕ) (g : Going) (here : Phase) (ran : Ran p n g here) 
         withdrawn-few = omega (arith, ran .inside, ran .withdrawn-few);
         beeps-few = omega (arith, ran .inside, ran .beeps-few);
       }
+
+  pub calm-on : (r : Going) → Turned g here r → (isWatched (p .device) ≡ true → pending (g .core .run) ≡ NoAlarm) → Calm p n r
+  calm-on r t calm h w =
+      let e : (n - g .left) + (g .left - r .left) - 1 ≡ n - r .left - 1 = omega (arith, t .fewer, ran .inside) in
+      subst (λ i. pending (moves p i .core .run) ≡ NoAlarm) e
+      (t .calm (look p) (p .device .core) (n - g .left) (ran .in-hand) (ran .same) (calm w))
 
   pub ran-on : (r : Going) (next : Phase) → Turned g here r → next ≡ look p (r .core .run .place .current) → Ran p n r next
   ran-on r next t h =
@@ -319,30 +327,42 @@ pub record Over (p : Pump) (n done : ℕ) : Type 0 where
   pub before : 0 < done → QuietFor p (done - 1)
   pub ends : (done ≡ n) ⊎ ((a : Alarm) × (sentIn done (p .device) (moves p done .core) ≡ said.Alarm a))
 
+-- ---- how a run of turns stops: none is left, or there is an alarm that is sent
+pub data Stops (p : Pump) (g : Going) : Type 0 where
+  ran-out : g .left ≤ 0 → Stops p g
+  alarmed : isWatched (p .device) ≡ true → isAlarmed (g .core) ≡ true → Stops p g
+
+pub stopped :
+    (p : Pump) (g : Going) (watched alarm : Bool)
+    → watched ≡ isWatched (p .device)
+    → alarm ≡ isAlarmed (g .core)
+    → (ltb 0 (g .left) && not (watched && alarm)) ≡ false
+    → Stops p g
+stopped p g watched alarm w a e = go (ltb 0 (g .left)) refl e
+  where
+    go : (t : Bool) → ltb 0 (g .left) ≡ t → (t && not (watched && alarm)) ≡ false → Stops p g
+    go false k z = ran-out (ltb-false 0 (g .left) k)
+    go true k z =
+        let both = not-false (watched && alarm) z in
+        alarmed (sym w ∙ and-left watched alarm both) (sym a ∙ and-right watched alarm both)
+
 module _ (p : Pump) (n : ℕ) (g : Going) (here : Phase) (ran : Ran p (reach n (p .device .link)) g here)
-    (calm : isWatched (p .device) ≡ true → pending (g .core .run) ≡ NoAlarm) where
+    (calm : Calm p (reach n (p .device .link)) g) where
   abbrev span : ℕ
   span = reach n (p .device .link)
 
-  calm-at : isWatched (p .device) ≡ true → pending (moves p (span - g .left) .core .run) ≡ NoAlarm
-  calm-at w = sym (ap (λ (x : Moves). pending (x .core .run)) (ran .same)) ∙ calm w
+  abbrev done : ℕ
+  done = span - g .left
 
-  -- none is left
-  pub over-all : g .left ≤ 0 → Over p n span
-  over-all none =
-      record {
-        within = reach-few n (p .device .link);
-        before =
-            λ some.
-            record {
-              calm =
-                  λ w.
-                  let e : span - g .left ≡ suc (span - 1) = omega arith in
-                  calm-before (look p) (p .device .core) (span - 1) (subst (λ i. pending (moves p i .core .run) ≡ NoAlarm) e (calm-at w));
-              early = λ h. let z = reach-most n (p .device .link) h in omega arith;
-            };
-        ends = go (reached n (p .device .link));
-      }
+  quiet-to : 0 < done → QuietFor p (done - 1)
+  quiet-to some = record { calm = calm some; early = λ h. let z = reach-most n (p .device .link) h in omega arith }
+
+  -- none is left: they are all, or the limit is reached
+  all-end : g .left ≤ 0 → (done ≡ n) ⊎ ((a : Alarm) × (sentIn done (p .device) (moves p done .core) ≡ said.Alarm a))
+  all-end none =
+      let all : span ≡ done = omega arith in
+      subst (λ (i : ℕ). (i ≡ n) ⊎ ((a : Alarm) × (sentIn i (p .device) (moves p i .core) ≡ said.Alarm a))) all
+      (go (reached n (p .device .link)))
     where
       go : ((0 < ticksLeft (p .device .link)) × (span ≡ ticksLeft (p .device .link)))
           ⊎ ((span ≡ n) × (0 < ticksLeft (p .device .link) → n ≤ ticksLeft (p .device .link)))
@@ -354,24 +374,11 @@ module _ (p : Pump) (n : ℕ) (g : Going) (here : Phase) (ran : Ran p (reach n (
           inr (TimeOut, alarms.due-sent (p .device) span (moves p span .core) (alarms.timer-safe (p .device .link) (w .0)) due)
 
   -- an alarm of the program ended them
-  pub over-alarm :
-      (r : Going) → Turned g here r → isWatched (p .device) ≡ true → isAlarmed (r .core) ≡ true → movesIn r ≡ moves p (span - r .left)
-      → Over p n (span - r .left)
-  over-alarm r t w alarmed same =
-      record {
-        within = let z = reach-few n (p .device .link) in omega arith;
-        before =
-            λ some.
-            record {
-              calm =
-                  λ v.
-                  let e : (span - g .left) + (g .left - r .left) - 1 ≡ span - r .left - 1 = omega (arith, t .fewer, ran .inside) in
-                  subst (λ i. pending (moves p i .core .run) ≡ NoAlarm) e
-                  (t .calm (look p) (p .device .core) (span - g .left) (ran .in-hand) (ran .same) (calm v));
-              early = λ h. let z = reach-most n (p .device .link) h in omega arith;
-            };
-        ends = inr (go (pending (r .core .run)) refl (isDue (span - r .left) (p .device .link)) refl);
-      }
+  alarm-ends :
+      isWatched (p .device) ≡ true
+      → isAlarmed (g .core) ≡ true
+      → (a : Alarm) × (sentIn done (p .device) (moves p done .core) ≡ said.Alarm a)
+  alarm-ends w alarm = go (pending (g .core .run)) refl (isDue done (p .device .link)) refl
     where
       safe : isSafe (p .device .link) ≡ true
       safe = and-left (isSafe (p .device .link)) (not (isAlarmed (p .device .core))) w
@@ -379,19 +386,24 @@ module _ (p : Pump) (n : ℕ) (g : Going) (here : Phase) (ran : Ran p (reach n (
       none : pending (p .device .core .run) ≡ NoAlarm
       none = alarms.not-raised (pending (p .device .core .run)) (and-right (isSafe (p .device .link)) (not (isAlarmed (p .device .core))) w)
 
-      at-end : pending (moves p (span - r .left) .core .run) ≡ pending (r .core .run)
-      at-end = sym (ap (λ (x : Moves). pending (x .core .run)) same)
+      at-end : pending (moves p done .core .run) ≡ pending (g .core .run)
+      at-end = sym (ap (λ (x : Moves). pending (x .core .run)) (ran .same))
 
       go :
           (x : Pending)
-          → pending (r .core .run) ≡ x
+          → pending (g .core .run) ≡ x
           → (u : Bool)
-          → isDue (span - r .left) (p .device .link) ≡ u
-          → (a : Alarm) × (sentIn (span - r .left) (p .device) (moves p (span - r .left) .core) ≡ said.Alarm a)
-      go NoAlarm e u d = false-true (sym (ap hasAlarm e) ∙ alarmed)
-      go (Raised a) e true d = (TimeOut, alarms.due-sent (p .device) (span - r .left) (moves p (span - r .left) .core) safe d)
-      go (Raised a) e false d =
-          (a, alarms.new-sent (p .device) (span - r .left) (moves p (span - r .left) .core) safe a d none (at-end ∙ e))
+          → isDue done (p .device .link) ≡ u
+          → (a : Alarm) × (sentIn done (p .device) (moves p done .core) ≡ said.Alarm a)
+      go NoAlarm e u d = false-true (sym (ap hasAlarm e) ∙ alarm)
+      go (Raised a) e true d = (TimeOut, alarms.due-sent (p .device) done (moves p done .core) safe d)
+      go (Raised a) e false d = (a, alarms.new-sent (p .device) done (moves p done .core) safe a d none (at-end ∙ e))
+
+  over : Stops p g → Over p n done
+  over (ran-out none) =
+      record { within = let z = reach-few n (p .device .link) in omega arith; before = quiet-to; ends = all-end none }
+  over (alarmed w a) =
+      record { within = let z = reach-few n (p .device .link) in omega arith; before = quiet-to; ends = inr (alarm-ends w a) }
 
 -- ---- what is refused runs no tick, and what is not runs all, or up to an alarm
 module _ (p : Pump) (buffer : List ℕ) (n span : ℕ) (sound t : Bool) (refusal : Refusal) (is : sound ≡ isSoundPump p)
@@ -444,83 +456,31 @@ module _ (p : Pump) (buffer : List ℕ) (n span : ℕ) (sound t : Bool) (refusal
           ∙ alarm-written (e .0) buffer (m .roomy) in
           sym (no-more p (m .of-sound) buffer done (n - done) some) ∙ ap (λ (i : ℕ). inTurn i p buffer) count
 
--- ---- how a run of turns stops: none is left, or the last turn raised an alarm that is sent
-pub data Stops (p : Pump) (g : Going) (here : Phase) : Going → Type 0 where
-  ran-out : g .left ≤ 0 → Stops p g here g
-  alarmed :
-      (r : Going)
-      → 0 < g .left
-      → Turned g here r
-      → isWatched (p .device) ≡ true
-      → isAlarmed (r .core) ≡ true
-      → Stops p g here r
-
-pub stopped-at : (p : Pump) (g : Going) (here : Phase) (e : Going) → e ≡ g → g .left ≤ 0 → Stops p g here e
-stopped-at p g here e k h = subst (Stops p g here) (sym k) (ran-out h)
-
-pub stopped-by :
-    (p : Pump) (g : Going) (here : Phase) (e r : Going) (watched alarm : Bool)
-    → e ≡ r
-    → 0 < g .left
-    → Turned g here r
-    → watched ≡ isWatched (p .device)
-    → alarm ≡ isAlarmed (r .core)
-    → (watched && alarm) ≡ true
-    → Stops p g here e
-stopped-by p g here e r watched alarm k h t w a both =
-    subst (Stops p g here) (sym k)
-    (alarmed r h t (sym w ∙ and-left watched alarm both) (sym a ∙ and-right watched alarm both))
-
-pub stop-left : (p : Pump) (span : ℕ) (g : Going) (here : Phase) → Ran p span g here → (e : Going) → Stops p g here e → e .left ≤ span
-stop-left p span g here ran e (ran-out h) = ran .inside
-stop-left p span g here ran e (alarmed r h t w a) = omega (arith, t .fewer, ran .inside)
-
-stop-moves :
-    (p : Pump) (span : ℕ) (g : Going) (here : Phase) → Ran p span g here → (e : Going) → Stops p g here e → movesIn e ≡ moves p (span - e .left)
-stop-moves p span g here ran e (ran-out h) = ran .same
-stop-moves p span g here ran e (alarmed r h t w a) =
-    let count : (span - g .left) + (g .left - r .left) ≡ span - r .left = omega (arith, t .fewer, ran .inside) in
-    t .same (look p) (p .device .core) (span - g .left) (ran .in-hand) (ran .same) ∙ ap (moves p) count
-
-stop-over :
-    (p : Pump) (n : ℕ) (g : Going) (here : Phase)
-    → Ran p (reach n (p .device .link)) g here
-    → (isWatched (p .device) ≡ true → pending (g .core .run) ≡ NoAlarm)
-    → (e : Going)
-    → Stops p g here e
-    → Over p n (reach n (p .device .link) - e .left)
-stop-over p n g here ran calm e (ran-out h) =
-    let all : reach n (p .device .link) ≡ reach n (p .device .link) - g .left = omega arith in
-    subst (Over p n) all (over-all p n g here ran calm h)
-stop-over p n g here ran calm e (alarmed r h t w a) =
-    over-alarm p n g here ran calm r t w a (stop-moves p (reach n (p .device .link)) g here ran r (alarmed r h t w a))
-
 module _ (p : Pump) (buffer : List ℕ) (n span : ℕ) (sound t : Bool) (refusal : Refusal) (is : sound ≡ isSoundPump p)
     (k : refusal ≡ ofTicks sound (length buffer) n) (tested : t ≡ isRefused refusal)
-    (g : Going) (here : Phase) (ran : Ran p span g here) (calm : isWatched (p .device) ≡ true → pending (g .core .run) ≡ NoAlarm)
-    (e : Going) (stops : Stops p g here e) where
+    (g : Going) (here : Phase) (ran : Ran p span g here) (calm : Calm p span g) (stops : Stops p g) where
   abbrev told : Outcome
   told =
-      record { report = gone p (movesIn e) (span - e .left) refusal buffer; buffer = goneBuffer p (movesIn e) (span - e .left) buffer }
+      record { report = gone p (movesIn g) (span - g .left) refusal buffer; buffer = goneBuffer p (movesIn g) (span - g .left) buffer }
 
-  as-moved : told ≡ goneOf p (span - e .left) refusal buffer
+  as-moved : told ≡ goneOf p (span - g .left) refusal buffer
   as-moved =
       ap
       (λ (x : Moves).
-      record { report = gone p x (span - e .left) refusal buffer; buffer = goneBuffer p x (span - e .left) buffer })
-      (stop-moves p span g here ran e stops)
+      record { report = gone p x (span - g .left) refusal buffer; buffer = goneBuffer p x (span - g .left) buffer })
+      (ran .same)
 
   pub finished :
       ((t ≡ true) × (span ≡ 0)) ⊎ ((t ≡ false) × (span ≡ reach n (p .device .link)))
       → told ≡ record { report = ticksCall p n buffer; buffer = ticksBuffer p n buffer }
   finished (inl w) =
-      let none : span - e .left ≡ 0 = omega (arith, w .1) in
+      let none : span - g .left ≡ 0 = omega (arith, w .1) in
       as-moved ∙ ap (λ (i : ℕ). goneOf p i refusal buffer) none ∙ none-done p buffer n span sound t refusal is k tested (w .0)
   finished (inr w) =
-      let over : Over p n (span - e .left) =
-      subst (λ (x : ℕ). Over p n (x - e .left)) (sym (w .1))
-      (stop-over p n g here (subst (λ (x : ℕ). Ran p x g here) (w .1) ran) calm e stops) in
-      as-moved ∙ all-done p buffer n span sound t refusal is k tested (w .0) (span - e .left) over
+      let ended : Over p n (span - g .left) =
+      subst (λ (x : ℕ). Over p n (x - g .left)) (sym (w .1))
+      (over p n g here (subst (λ (x : ℕ). Ran p x g here) (w .1) ran) (subst (λ (x : ℕ). Calm p x g) (w .1) calm) stops) in
+      as-moved ∙ all-done p buffer n span sound t refusal is k tested (w .0) (span - g .left) ended
 
 -- ---- one tick is a call of one
 one-sum : (p : Pump) (buffer : List ℕ) (t : Outcome) → andTick (record { report = reported p 0; buffer = buffer }) t ≡ t

@@ -3,7 +3,7 @@
 use Prim.Native.Nat.{ℕ, zero, suc, _+_, _≤_}
 use mathlib.Core.List.{List}
 use lib.Dec.{eqb}
-use lib.ListN.{length, take}
+use lib.ListN.{length}
 use Rattle.base.specs.If.{if_then_else_}
 use Rattle.words.specs.declared.answers.Reply.the-variants.{Garbled}
 use Rattle.words.specs.declared.answers.Said.{Said}
@@ -12,20 +12,18 @@ use Rattle.words.specs.declared.commands.Asked.{Asked}
 use Rattle.program.specs.Statuses.{inHand}
 use Rattle.tick.specs.Ticks.{tick}
 use Rattle.tick.specs.declared.Moved.{Moved}
-use Rattle.line.specs.Lines.{emptyLine, afterByte}
-use Rattle.line.specs.Requests.{askedIn, askedOf}
-use Rattle.line.specs.declared.lines.Arrived.{Arrived}
-use Rattle.packet.specs.declared.receiver.Outcome as link-told
-use Rattle.packet.specs.declared.receiver.Outcome.the-variants as packet
-use Rattle.link.specs.Link.{isSafe, linkAfter, clearedLink}
+use Rattle.link.specs.Link.{isSafe}
 use Rattle.link.specs.declared.Link.{Link}
-use Rattle.link.specs.declared.Taken.{Taken}
 use Rattle.answer.specs.Answers.{lengthIn, bufferAfter}
 use Rattle.answer.specs.declared.frame.Frame.{Frame}
 use Rattle.answer.specs.declared.frame.Frame.the-variants as frame
-use Rattle.pump.specs.Device.{withLine, withLink, edge, hearText, said}
+use Rattle.pump.specs.Arriving.{arrival}
+use Rattle.pump.specs.Device.{edge, hearText, said}
 use Rattle.pump.specs.Holder.{phaseCount, phaseAt, hereOf, withDevice, edited, isSoundPump}
 use Rattle.pump.specs.Reports.{ofPin, ofByte, ofTicks, isRefused, Outcome, refused, unlessRefused, reported, movedBy, movedBuffer}
+use Rattle.pump.specs.declared.arriving.Arrival.{Arrival}
+use Rattle.pump.specs.declared.arriving.Brought.{Brought}
+use Rattle.pump.specs.declared.arriving.Brought.the-variants as brought
 use Rattle.pump.specs.declared.calls.Listened.{Listened}
 use Rattle.pump.specs.declared.device.Heard.{Heard}
 use Rattle.pump.specs.declared.device.Told.{Told}
@@ -106,34 +104,17 @@ afterText p asked =
     (hearText (p .device) asked (phaseAt (p .phases) (inHand (p .device .core)))
     (phaseAt (p .phases) (inHand (p .device .core) + 1) .function) (phaseCount p))
 
--- ---- Basic mode: a byte goes to the line; a line that it ends is heard, and emptied whatever it asks for
-abbrev pub heardBy : Pump → Arrived → Listened
-heardBy p a =
-    if a .ended
-    then afterText (withDevice p (withLine (p .device) emptyLine)) (askedIn (a .line))
-    else silently (withDevice p (withLine (p .device) (a .line)))
+-- ---- what a byte brought is heard; a wrong packet is answered `?COM` and asks for nothing   (02, 2/12)
+abbrev pub toldOf : Pump → Brought → Listened
+toldOf p brought.Nothing = silently p
+toldOf p brought.Wrong = saying p (told.Reply Garbled)
+toldOf p (brought.Text asked) = afterText p asked
 
--- ---- Safe mode: a byte goes to the packet under way, if there is one; a wrong packet is answered `?COM` and asks for nothing, and the
--- data of a good one are heard   (02, 2/12)
-abbrev pub withLinkOf : Pump → Link → Pump
-withLinkOf p l = withDevice p (withLink (p .device) l)
-
-abbrev pub toldBy : Pump → Link → link-told.Outcome → Listened
-toldBy p l packet.Nothing = silently (withLinkOf p l)
-toldBy p l packet.Wrong = saying (withLinkOf p l) (told.Reply Garbled)
-toldBy p l (packet.Good n) = afterText (withLinkOf p (clearedLink l)) (askedOf (take n (l .bytes)))
-
--- how many data a good packet has
-abbrev pub dataIn : link-told.Outcome → ℕ
-dataIn packet.Nothing = 0
-dataIn packet.Wrong = 0
-dataIn (packet.Good n) = n
+abbrev pub heardIn : Pump → Arrival → Listened
+heardIn p a = toldOf (withDevice p (a .device)) (a .brought)
 
 unfoldable pub hear : Pump → ℕ → Listened
-hear p b =
-    if isSafe (p .device .link)
-    then toldBy p (linkAfter (p .device .link) b .link) (linkAfter (p .device .link) b .outcome)
-    else heardBy p (afterByte (p .device .line) b)
+hear p b = heardIn p (arrival (p .device) b)
 
 -- what is said is framed with our address, 0, as the mode asks in which the byte came   (02, 2/12: "answered in the mode they came in")
 abbrev pub frameIn : Link → Frame

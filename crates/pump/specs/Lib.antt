@@ -1,5 +1,6 @@
 -- The pump: the device, the holder of the phases, and the calls.
 pub mod Device
+pub mod Arriving
 pub mod Elapsing
 pub mod Holder
 pub mod Reports

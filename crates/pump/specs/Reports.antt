@@ -50,19 +50,21 @@ pub record Outcome : Type 0 where
   pub report : Report
   pub buffer : List ℕ
 
--- the given state, no step, no beep, no tick done, no answer
+-- no step, no beep, no tick done; an answer of that length
+abbrev pub unstepped : Pump → ℕ → Refusal → Report
+unstepped p n refusal =
+    record { pump = p; length = n; infused = 0; withdrawn = 0; beeps = 0; ticks = 0; refusal = refusal; output = p .device .core .output }
+
+-- the given state, and no answer
 abbrev pub refused : Pump → Refusal → Report
-refused p refusal =
-    record { pump = p; length = 0; infused = 0; withdrawn = 0; beeps = 0; ticks = 0; refusal = refusal; output = p .device .core .output }
+refused p refusal = unstepped p 0 refusal
 
 -- a call does what it does where it is not refused
 abbrev pub unlessRefused : Pump → Refusal → Report → Report
 unlessRefused p refusal does = if isRefused refusal then refused p refusal else does
 
--- no step, no tick, and an answer of that length
 abbrev pub reported : Pump → ℕ → Report
-reported p n =
-    record { pump = p; length = n; infused = 0; withdrawn = 0; beeps = 0; ticks = 0; refusal = Accepted; output = p .device .core .output }
+reported p n = unstepped p n Accepted
 
 -- what a tick did: what it sends is a packet, whose length is told
 abbrev pub movedBy : Pump → Moved → List ℕ → Report

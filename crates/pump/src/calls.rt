@@ -1,20 +1,15 @@
 // The calls: a byte, a pin level, a tick. Each tests the whole state first; no call has a precondition.
 ghost use mathlib.Core.Path.{_≡_};
-ghost use mathlib.Core.Bool.{true};
-ghost use Prim.Native.Nat.{_≤_};
-ghost use Rattle.pump.specs.Calls.{Handy, tickCall, tickBuffer, pinCall, byteReport, byteBuffer, received, receivedBuffer};
-ghost use Rattle.pump.specs.Calls.{afterText, toldBy, dataIn, frameIn, answered};
-ghost use Rattle.link.specs.Link.{isSoundLink};
-ghost use Rattle.answer.specs.Answers.{bufferAfter};
+ghost use Rattle.pump.specs.Calls.{Handy, tickCall, tickBuffer, pinCall, byteReport, byteBuffer, toldOf, afterText, frameIn};
+use crate::arriving::Brought;
 use crate::device::Told;
 use crate::holder::Pump;
 use crate::reports::Refusal;
 use crate::reports::Report;
 use answer::Frame;
-use line::Line;
 use link::Link;
-use packet::Outcome;
 use words::Asked;
+use words::Phase;
 use words::Reply;
 use words::Said;
 
@@ -37,67 +32,65 @@ impl Pump {
         ensures { λ r. ⌜ r ≡ pinCall self pin level ⌝ }
     {
         let refusal = Refusal::of_pin(self.is_sound(), pin, level);
-        if refusal.is_refused() {
-            return self.refused(refusal);
+        if !refusal.is_refused() {
+            self.device = self.device.edge(pin, level == 1);
         }
-        self.device = self.device.edge(pin, level == 1);
-        self.reported(0)
+        self.unstepped(0, refusal)
     }
 
-    // One byte of a line, or in Safe mode of a packet. The answer to a whole one is written at the start of `out`.
+    // One byte of a line, or in Safe mode of a packet. The answer to a whole one is written at the start of `out`, in the mode of the link
+    // that it came by: SAF and *RESET change the mode behind it. The state is tested as `Pump::is_sound` tests it. Phases and device are kept
+    // apart up to the end, so that a byte which brings nothing to its end copies the phases for the test and hands that copy back: a pump
+    // that is handed on would be copied at every byte.
     pub fn byte(self, b: u8, out: &mut [u8]) -> Report
         ensures { λ r. ⌜ (r ≡ byteReport self b (now (out .entry))) × (now (out .exit) ≡ byteBuffer self b (now (out .entry))) ⌝ }
     {
-        let refusal = Refusal::of_byte(self.is_sound(), out.len());
-        if refusal.is_refused() {
-            return self.refused(refusal);
+        let mut phases = self.phases;
+        let mut device = self.device;
+        let first = device.core.run.place.current;
+        let mut here = Phase::power_up(0);
+        if (1 <= first) & (first <= Pump::PHASES) {
+            let at = (first - 1) as usize;
+            here = phases[at];
         }
-        self.received(b, out)
-    }
-
-    // The byte goes to the line, and a line that it ends is heard. Where nothing is said no frame is made: a `Listened` at every byte would
-    // cost two copies of the pump.
-    fn received(mut self, b: u8, out: &mut [u8]) -> Report
-        requires { ⌜ Handy self × (isSoundLink (self .device .link) ≡ true) ⌝ }
-        ensures { λ r. ⌜ (r ≡ received self b (now (out .entry))) × (now (out .exit) ≡ receivedBuffer self b (now (out .entry))) ⌝ }
-    {
-        let source = self.device.link;
-        if source.is_safe() {
-            let taken = source.after(b);
-            let link = taken.link;
-            let outcome = taken.outcome;
-            let listened = self.told_by(link, outcome);
-            let said = listened.said;
-            return listened.pump.answered(source, said, out);
-        }
-        let arrived = self.device.line.after_byte(b);
-        if arrived.ended {
-            let asked = arrived.line.asked_in();
-            self.device = self.device.with_line(Line::empty());
-            let heard = self.after_text(asked);
-            let said = heard.said;
-            return heard.pump.answered(source, said, out);
-        }
-        self.device = self.device.with_line(arrived.line);
-        self.reported(0)
-    }
-
-    // A byte in Safe mode, by what it makes of the packet under way. A good packet's data lie at the start of the link's bytes, and are put
-    // away before they are obeyed.
-    fn told_by(mut self, link: Link, outcome: Outcome) -> Listened
-        requires { ⌜ Handy self × (dataIn outcome ≤ 40) ⌝ }
-        ensures { λ r. ⌜ r ≡ toldBy self link outcome ⌝ }
-    {
-        match outcome {
-            Outcome::Nothing => {
-                self.device = self.device.with_link(link);
-                Listened {
-                    pump: self,
-                    said: Said::Nothing,
-                }
+        let fit = device.is_sound(here, Pump::PHASES);
+        let mut i = Pump::PHASES as usize;
+        while 0 < i {
+            let p = phases[i - 1];
+            if !p.is_sound(Pump::PHASES) {
+                break;
             }
-            Outcome::Wrong => {
-                self.device = self.device.with_link(link);
+            i -= 1;
+        }
+        let refusal = Refusal::of_byte(fit & (i == 0), out.len());
+        let mut length: usize = 0;
+        if !refusal.is_refused() {
+            let source = device.link;
+            let arrival = device.arrived(b);
+            let brought = arrival.brought;
+            device = arrival.device;
+            if brought.is_whole() {
+                let listened = Pump::joined(phases, device).told(brought);
+                let said = listened.said;
+                phases = listened.pump.phases;
+                device = listened.pump.device;
+                length = answer::write(frame_in(source), 0, said, out);
+            }
+        }
+        Pump::joined(phases, device).unstepped(length, refusal)
+    }
+
+    // What a byte brought to its end is heard. A wrong packet is answered `?COM` and asks for nothing.
+    fn told(self, brought: Brought) -> Listened
+        requires { ⌜ Handy self ⌝ }
+        ensures { λ r. ⌜ r ≡ toldOf self brought ⌝ }
+    {
+        match brought {
+            Brought::Nothing => Listened {
+                pump: self,
+                said: Said::Nothing,
+            },
+            Brought::Wrong => {
                 let current = self.phase_at(self.device.core.run.place.current);
                 let direction = current.direction;
                 let said = self.device.said(Told::Reply(Reply::Garbled), direction);
@@ -106,17 +99,11 @@ impl Pump {
                     said: said,
                 }
             }
-            Outcome::Good(n) => {
-                let bytes = link.bytes;
-                let asked = line::asked_of(&bytes[..n as usize]);
-                self.device = self.device.with_link(link.cleared());
-                self.after_text(asked)
-            }
+            Brought::Text(asked) => self.after_text(asked),
         }
     }
 
-    // The text is heard: the phases that it may concern are looked up, and the edit is stored. The status is that after the command. (In a
-    // function of its own it would have the compiler move the pump field by field, at every byte.)
+    // The text is heard: the phases that it may concern are looked up, and the edit is stored. The status is that after the command.
     fn after_text(mut self, asked: Asked) -> Listened
         requires { ⌜ Handy self ⌝ }
         ensures { λ r. ⌜ r ≡ afterText self asked ⌝ }
@@ -137,15 +124,6 @@ impl Pump {
             pump: self,
             said: said,
         }
-    }
-
-    // Framed at the last moment, with our address, in the mode of the link that the text came by: SAF and *RESET change the mode behind it.
-    fn answered(self, source: Link, said: Said, out: &mut [u8]) -> Report
-        ensures { λ r. ⌜ (r ≡ answered self (frameIn source) said (now (out .entry)))
-            × (now (out .exit) ≡ bufferAfter (frameIn source) 0 said (now (out .entry))) ⌝ }
-    {
-        let frame = frame_in(source);
-        self.reported(answer::write(frame, 0, said, out))
     }
 }
 

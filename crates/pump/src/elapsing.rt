@@ -30,20 +30,20 @@ impl Device {
         self.link.is_safe() & !is_alarmed(self.core)
     }
 
-    // The device after so many ticks, with the core as the phases' rules leave it.
+    // The device after so many ticks, with the core as the phases' rules leave it. The link is written in Safe mode alone, in its place: else
+    // its bytes would be copied at every tick.
     pub fn after_ticks(mut self, n: u32, core: Core) -> Device
         requires { ⌜ (0 < n → isSoundLink (self .link) ≡ true) ⌝ }
         ensures { λ r. ⌜ r ≡ afterTicks n self core ⌝ }
     {
-        if n == 0 {
-            return self.with_core(core);
+        self.core = core;
+        if (0 < n) & self.link.is_safe() {
+            if self.is_due(n) {
+                self.core = time_out(core);
+            }
+            self.link = self.link.ticked(n);
         }
-        let due = self.is_due(n);
-        self.link = self.link.ticked(n);
-        if due {
-            return self.with_core(time_out(core));
-        }
-        self.with_core(core)
+        self
     }
 
     // What these ticks send.

@@ -33,6 +33,15 @@ impl Pump {
         }
     }
 
+    pub fn joined(phases: [Phase; 41], device: Device) -> Pump
+        ensures { λ r. ⌜ r ≡ record { phases = phases; device = device } ⌝ }
+    {
+        Pump {
+            phases: phases,
+            device: device,
+        }
+    }
+
     // The phase of a number; at 0 and past the last, one that stops.
     pub fn phase_at(self, n: u8) -> Phase
         ensures { λ r. ⌜ r ≡ phaseAt (self .phases) n ⌝ }

@@ -4,12 +4,14 @@
 // looks phases up, calls the device with them, and stores what comes back.
 //
 //   device    the core, the line and the link; what a whole text and an edge do to them
+//   arriving  what a byte makes of the line, or of the packet under way
 //   elapsing  what ticks do beside the work of the phases: the time limit, and the alarm that is sent
 //   holder    the phases: the state, its constants, the phase of a number, and the edit that a command asks for
 //   checks    when the whole is sound
 //   reports   what every call hands back, and the refusals
 //   calls     the byte, the pin and the tick
 //   many      many ticks at a time
+mod arriving;
 mod calls;
 mod checks;
 mod device;
@@ -18,6 +20,8 @@ mod holder;
 mod many;
 mod reports;
 
+pub use arriving::Arrival;
+pub use arriving::Brought;
 pub use device::Device;
 pub use device::Heard;
 pub use device::Told;

@@ -20,9 +20,9 @@ pub struct Going {
 }
 
 impl Pump {
-    // So many milliseconds, up to 1,000,000. All in one function, with one copy of the phases for the test and for the run: a call that is
-    // handed the pump would make another. What is refused runs no tick. In Safe mode the ticks end with the one that raises an alarm: they
-    // run no further than the time limit, and are watched for an alarm of the program where none was pending.
+    // So many milliseconds, up to 1,000,000. All in one function, with one copy of the phases for the test (that of `Pump::is_sound`) and for
+    // the run: a call that is handed the pump would make another. What is refused runs no tick. In Safe mode the ticks end with the one that
+    // raises an alarm: they run no further than the time limit, and are watched for an alarm of the program where none was pending.
     pub fn ticks(self, n: u32, out: &mut [u8]) -> Report
         ensures { λ r. ⌜ (r ≡ ticksCall self n (now (out .entry))) × (now (out .exit) ≡ ticksBuffer self n (now (out .entry))) ⌝ }
     {
@@ -33,19 +33,16 @@ impl Pump {
             let at = (first - 1) as usize;
             here = phases[at];
         }
-        let mut i: usize = 0;
-        while i < Pump::PHASES as usize {
-            let p = phases[i];
+        let fit = self.device.is_sound(here, Pump::PHASES);
+        let mut i = Pump::PHASES as usize;
+        while 0 < i {
+            let p = phases[i - 1];
             if !p.is_sound(Pump::PHASES) {
                 break;
             }
-            i += 1;
+            i -= 1;
         }
-        let mut sound = false;
-        if i == Pump::PHASES as usize {
-            sound = self.device.is_sound(here, Pump::PHASES);
-        }
-        let refusal = Refusal::of_ticks(sound, out.len(), n);
+        let refusal = Refusal::of_ticks(fit & (i == 0), out.len(), n);
         let span = if refusal.is_refused() {
             0
         } else {
@@ -53,11 +50,8 @@ impl Pump {
         };
         let watched = self.device.is_watched();
         let mut going = Going::from(self.device.core, span);
-        while 0 < going.left {
+        while (0 < going.left) & !(watched & is_alarmed(going.core)) {
             going = turn(going, here);
-            if watched & is_alarmed(going.core) {
-                break;
-            }
             let current = going.core.run.place.current;
             here = Phase::power_up(0);
             if (1 <= current) & (current <= Pump::PHASES) {

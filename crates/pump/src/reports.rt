@@ -1,7 +1,7 @@
 // What every call hands back, and the refusals.
 ghost use mathlib.Core.Path.{_≡_};
 ghost use Rattle.pump.specs.Reports.{refusalNumber, ofPin, ofByte, ofTicks, isRefused};
-ghost use Rattle.pump.specs.Reports.{refused, reported, gone, goneBuffer};
+ghost use Rattle.pump.specs.Reports.{unstepped, gone, goneBuffer};
 ghost use Rattle.pump.specs.Going.{movesIn};
 ghost use Rattle.link.specs.Link.{isSoundLink};
 ghost use mathlib.Core.Bool.{true};
@@ -102,26 +102,9 @@ pub struct Report {
 }
 
 impl Pump {
-    // The given state, no step, no beep, nothing written.
-    pub fn refused(self, refusal: Refusal) -> Report
-        ensures { λ r. ⌜ r ≡ refused self refusal ⌝ }
-    {
-        let output = self.device.core.output;
-        Report {
-            pump: self,
-            length: 0,
-            infused: 0,
-            withdrawn: 0,
-            beeps: 0,
-            ticks: 0,
-            refusal: refusal,
-            output: output,
-        }
-    }
-
-    // A call that gives no step, with the length of the answer that it wrote.
-    pub fn reported(self, length: usize) -> Report
-        ensures { λ r. ⌜ r ≡ reported self length ⌝ }
+    // A call that gives no step, with the length of the answer that it wrote. What is refused writes none.
+    pub fn unstepped(self, length: usize, refusal: Refusal) -> Report
+        ensures { λ r. ⌜ r ≡ unstepped self length refusal ⌝ }
     {
         let output = self.device.core.output;
         Report {
@@ -131,14 +114,14 @@ impl Pump {
             withdrawn: 0,
             beeps: 0,
             ticks: 0,
-            refusal: Refusal::Accepted,
+            refusal: refusal,
             output: output,
         }
     }
 
     // The ticks that were done, of `span` that were to be; none where they were refused. Only the last of them can have raised an alarm,
     // which is sent.
-    pub fn gone(self, going: Going, span: u32, refusal: Refusal, out: &mut [u8]) -> Report
+    pub fn gone(mut self, going: Going, span: u32, refusal: Refusal, out: &mut [u8]) -> Report
         requires { ⌜ (going .left ≤ span) × (0 < span → isSoundLink (self .device .link) ≡ true) ⌝ }
         ensures { λ r. ⌜ (r ≡ gone self (movesIn going) (span - going .left) refusal (now (out .entry)))
             × (now (out .exit) ≡ goneBuffer self (movesIn going) (span - going .left) (now (out .entry))) ⌝ }
@@ -147,8 +130,9 @@ impl Pump {
         let ticks = span - going.left;
         let said = self.device.sent_in(ticks, core);
         let length = answer::write(Frame::Packet, 0, said, out);
+        self.device = self.device.after_ticks(ticks, core);
         Report {
-            pump: self.with_device(self.device.after_ticks(ticks, core)),
+            pump: self,
             length: length,
             infused: going.infused,
             withdrawn: going.withdrawn,

@@ -27,7 +27,8 @@ use Rattle.packet.specs.declared.receiver.Outcome as told
 use Rattle.packet.specs.declared.receiver.Outcome.the-variants as packet
 use Rattle.link.specs.Link.{isSafe, limitedTo, clearedLink}
 use Rattle.link.specs.declared.Link.{Link}
-use Rattle.pump.specs.Calls.{listenedTo, afterText, heardBy, toldBy, hear}
+use Rattle.pump.specs.Arriving.{lineArrival, packetArrival, arrival}
+use Rattle.pump.specs.Calls.{listenedTo, afterText, heardIn, hear}
 use Rattle.pump.specs.Device as device
 use Rattle.pump.specs.Holder.{phaseCount, phaseAt}
 use Rattle.pump.specs.declared.calls.Listened.{Listened}
@@ -114,6 +115,13 @@ module _ (p : Pump) (asked : Asked) where
           let n = eqb-false (asked .address) 0 e in
           subst (HearsText p asked) (sym (text-other n)) (other-address n)
 
+-- ---- what is heard of a byte, by the mode in which it came
+abbrev heardBy : Pump → Arrived → Listened
+heardBy p a = heardIn p (lineArrival (p .device) a)
+
+abbrev pub toldBy : Pump → Link → told.Outcome → Listened
+toldBy p l x = heardIn p (packetArrival (p .device) l x)
+
 -- ---- the return, and any other byte
 returned : (l : Line) (b : ℕ) → b ≡ 13 → afterByte l b ≡ record { line = l; ended = true }
 unfolding afterByte arrivalOf isReturn
@@ -135,11 +143,11 @@ module _ (p : Pump) (b : ℕ) where
   link = taken p b .link
 
   in-line : isSafe (linkOf p) ≡ false → hear p b ≡ heardBy p (afterByte line b)
-  unfolding hear
+  unfolding hear arrival
   in-line e = simp e
 
   pub in-packet : isSafe (linkOf p) ≡ true → hear p b ≡ toldBy p link (taken p b .outcome)
-  unfolding hear
+  unfolding hear arrival
   in-packet e = simp e
 
   pub at-return : isSafe (linkOf p) ≡ false → b ≡ 13 → hear p b ≡ afterText (emptied p) (askedIn line)

@@ -54,7 +54,7 @@ use Rattle.link.specs.declared.Taken.{Taken}
 use Rattle.link.proofs.Hearing.{hears, means}
 use Rattle.link.proofs.Modes.{stands}
 use Rattle.link.proofs.Theorems as links
-use Rattle.pump.specs.Calls.{saying, afterText, toldBy, hear}
+use Rattle.pump.specs.Calls.{saying, afterText, hear}
 use Rattle.pump.specs.Device as device
 use Rattle.pump.specs.Holder.{phaseCount, phaseAt, freshPhases, withPhase, withPhases, edited}
 use Rattle.pump.specs.declared.calls.Listened.{Listened}
@@ -68,7 +68,7 @@ use Rattle.statement.specs.Outcomes.{pumpWithCore, pumpWithLink, quiet, 
 use Rattle.statement.specs.Safe.{sayings, behind, garbled, Untouched, Alike}
 use Rattle.statement.proofs.Always.{call-whole}
 use Rattle.statement.proofs.Doing.{does}
-use Rattle.statement.proofs.Hearing.{text-other, text-is, in-packet, at-return}
+use Rattle.statement.proofs.Hearing.{text-other, text-is, toldBy, in-packet, at-return}
 use Rattle.statement.proofs.Joining.{after-last}
 use Rattle.statement.proofs.Links.{safe-mode}
 

@@ -1,4 +1,4 @@
-//! Ticks of the plain engine against the clock, from the same tables as the Rattle crate that tests/speed names.
+//! Ticks and bytes of the plain engine against the clock, from the same tables as the Rattle crate that tests/speed names.
 
 use twin::{Direction, Function, Mode, Phase, Pump, RateUnit, ANSWER_ROOM};
 
@@ -26,19 +26,23 @@ pub extern "C" fn twin_calls(calls: u32, ticks: u32, table: u32) -> u64 {
     steps
 }
 
-/// The bytes that so many packets with the query DIA are answered with, in Safe mode.
+/// The bytes that so many times eight are answered with. Of kind 0 the first eight lead into Safe mode, and then it is the query DIA as a
+/// packet; of any other it is DIA twice, as lines.
 #[no_mangle]
-pub extern "C" fn twin_packets(packets: u32) -> u64 {
-    let mut pump = Pump::new();
+pub extern "C" fn twin_bytes(times: u32, kind: u32, table: u32) -> u64 {
+    let (first, then) = match kind {
+        0 => (*b"\rSAF255\r", [2, 7, b'D', b'I', b'A', 0x2e, 0xdc, 3]),
+        _ => (*b"DIA\rDIA\r", *b"DIA\rDIA\r"),
+    };
+    let mut pump = running(table);
     let mut answer = [0; ANSWER_ROOM];
-    for byte in b"\rSAF255\r" {
-        pump.byte(*byte, &mut answer);
-    }
+    let mut bytes = first;
     let mut said = 0;
-    for _ in 0..packets {
-        for byte in [2, 7, b'D', b'I', b'A', 0x2e, 0xdc, 3] {
+    for _ in 0..times {
+        for byte in bytes {
             said += pump.byte(byte, &mut answer).answer as u64;
         }
+        bytes = then;
     }
     said
 }

@@ -1,6 +1,7 @@
 -- `Pump::gone` meets its contract.
 -- Assumes nothing.
 use native.Mathlib.Omega.{arith}
+use mathlib.Core.Path.{refl}
 use Rattle.pump.proofs.Calling.{gone-as, gone-written}
 use borrow.Author.Needs.{needs}
 use Rattle.pump.proofs.holder.Pump.gone.Statement.{statement}
@@ -13,11 +14,10 @@ after-ticks-requires c κs =
 
 returns : tie.Need-returns
 returns c =
-    let k = c .before .before .before .before .before .before .before .before .before .before in
-    let told = c .before .before .before .before .before .before .sent-in .ensures in
-    let written = c .before .before .before .before .write .ensures in (
-      gone-as (k .args .self) (k .args .going) _ _ _ told (k .args .refusal) _ _ _ (written .0) (c .before .after-ticks .ensures)
-          (c .with-device .ensures),
+    let k = c .before .before .before .before .before .before .before .before .before in
+    let told = c .before .before .before .before .before .sent-in .ensures in
+    let written = c .before .before .before .write .ensures in (
+      gone-as (k .args .self) (k .args .going) _ _ _ told (k .args .refusal) _ _ (written .0) (c .after-ticks .ensures),
       gone-written (k .args .self) (k .args .going) _ _ _ told _ (written .1),
     )
 
@@ -29,6 +29,5 @@ gone-spec =
     (λ c κs. search needs)
     (λ c κs. search needs)
     after-ticks-requires
-    (λ c κs. search needs)
     (λ c. search needs)
     returns)

@@ -22,16 +22,14 @@ and-comm false false = refl
 
 -- ---- the whole tested: the device, and the phases down to the first
 pub whole-sound :
-    {count : ℕ} (p : Pump) (i : ℕ) (here : Phase) (fit : Bool)
+    {count : ℕ} (p : Pump) (i : ℕ) (fit : Bool)
     → phaseCount p ≡ count
     → eqb i 0 ≡ isSoundPhases (phaseCount p) (p .phases)
-    → here ≡ hereOf p
-    → fit ≡ isSoundDevice count (p .device) here
+    → fit ≡ isSoundDevice count (p .device) (hereOf p)
     → (fit && eqb i 0) ≡ isSoundPump p
 unfolding isSoundPump
-whole-sound p i here fit full e h v =
-    ap (λ (t : Bool). t && eqb i 0)
-    (v ∙ ap (isSoundDevice _ (p .device)) h ∙ sym (ap (λ (k : ℕ). isSoundDevice k (p .device) (hereOf p)) full))
+whole-sound p i fit full e v =
+    ap (λ (t : Bool). t && eqb i 0) (v ∙ sym (ap (λ (k : ℕ). isSoundDevice k (p .device) (hereOf p)) full))
     ∙ ap (λ (t : Bool). isSoundDevice (phaseCount p) (p .device) (hereOf p) && t) e
     ∙ and-comm (isSoundDevice (phaseCount p) (p .device) (hereOf p)) (isSoundPhases (phaseCount p) (p .phases))
 

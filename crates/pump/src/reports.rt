@@ -130,6 +130,7 @@ impl Pump {
         let ticks = span - going.left;
         let said = self.device.sent_in(ticks, core);
         let length = answer::write(Frame::Packet, 0, said, out);
+        let output = core.output;
         self.device = self.device.after_ticks(ticks, core);
         Report {
             pump: self,
@@ -139,7 +140,7 @@ impl Pump {
             beeps: going.beeps,
             ticks: ticks,
             refusal: refusal,
-            output: core.output,
+            output: output,
         }
     }
 }

@@ -3,12 +3,13 @@
 use Prim.Native.Nat.{ℕ}
 use mathlib.Core.Logic.{⊎-elim}
 use mathlib.Core.List.{List}
-use mathlib.Core.Path.{sym, ap, _∙_, subst}
+use mathlib.Core.Path.{_≡_, sym, ap, _∙_, subst}
 use native.Mathlib.Omega.{arith}
 use lib.ListN.{length, length-map}
 use borrow.Author.Needs.{needs}
 use Rattle.pump.specs.Calls.{Handy, toldOf}
-use Rattle.pump.specs.Holder.{modelPhases}
+use Rattle.pump.specs.Device.{isSoundDevice}
+use Rattle.pump.specs.Holder.{modelPhases, phaseAt}
 use Rattle.pump.specs.declared.holder.Pump.{Pump}
 use Rattle.pump.proofs.Calling.{byte-ready, handy-behind, byte-refused, byte-silent, byte-answered, byte-parts}
 use Rattle.pump.proofs.Holding.{whole-sound, not-false, not-true}
@@ -18,7 +19,8 @@ use Rattle.pump.proofs.holder.Pump.byte.Statement.{statement}
 use Rattle.pump.proofs.holder.Pump.byte.Tie as tie
 
 abbrev Inv-loop : tie.InvT-loop
-Inv-loop b out phases device first fit i₀ i = Tested modelPhases phases i
+Inv-loop b out phases device first fit i₀ i =
+    (fit ≡ isSoundDevice modelPhases device (phaseAt phases first)) × Tested modelPhases phases i
 
 abbrev μ-loop : tie.MeasureT-loop
 μ-loop b out phases device first fit i₀ i = i
@@ -66,9 +68,21 @@ cast-i c = omega arith
 
 loop-holds : tie.Need-loop-holds Inv-loop μ-loop
 loop-holds c =
-    let k = c .before .before .before .before .before .before in
+    let found = c .before in
+    let k = found .before .before .before .before .before in
     let full = simp length-map at (k .good .0 .1 .1 .0 .1 .0 .1) in
-    tested-none (k .args .self .phases) full
+    let ps = k .args .self .phases in
+    let at = k .args .self .device .core .run .place .current in (
+      c .is-sound .ensures
+          ∙ ap (isSoundDevice modelPhases (k .args .self .device))
+          (⊎-elim
+          (λ (w : _).
+          let within = w .0 .taken in
+          phase-read ps at (found .if1 .here) full _ (number-least modelPhases at within) (number-most modelPhases at within) (w .2))
+          (λ (w : _). phase-none ps at (found .if1 .here) full (w .0 .left) (w .1 ∙ found .before .power-up .ensures))
+          (found .if1 .came)),
+      tested-none ps full,
+    )
 
 sub-p : tie.Need-sub-p Inv-loop μ-loop
 sub-p c = omega arith
@@ -92,9 +106,11 @@ loop-again : tie.Need-loop-again Inv-loop μ-loop
 loop-again c =
     let turn = c .before .before .before .before in
     let k = turn .before .before .before .before .before .before .before in
-    let full = simp length-map at (k .good .0 .1 .1 .0 .1 .0 .1) in
-    tested-more (k .args .self .phases) full (turn .loop .i) (turn .loop .inv) (omega arith) _ (c .before .is-sound2 .ensures)
-    (not-false _ (c .if2 .left))
+    let full = simp length-map at (k .good .0 .1 .1 .0 .1 .0 .1) in (
+      turn .loop .inv .0,
+      tested-more (k .args .self .phases) full (turn .loop .i) (turn .loop .inv .1) (omega arith) _ (c .before .is-sound2 .ensures)
+          (not-false _ (c .if2 .left)),
+    )
 
 of-byte-requires : tie.Need-of-byte-requires Inv-loop μ-loop
 of-byte-requires c κs = tt
@@ -110,21 +126,13 @@ arrived-requires c κs =
     let k = turn .before .before .before .before .before .before .before in
     let full = simp length-map at (k .good .0 .1 .1 .0 .1 .0 .1) in
     let ps = k .args .self .phases in
-    let at = k .args .self .device .core .run .place .current in
-    let found = turn .before .before in
     let sound =
-    whole-sound (k .args .self) (turn .loop .i) (found .if1 .here) _ full
-    (⊎-elim (λ (v : _). all-sound ps full (turn .loop .i) (turn .loop .inv) (omega (arith, v .left)))
+    whole-sound (k .args .self) (turn .loop .i) _ full
+    (⊎-elim (λ (v : _). all-sound ps full (turn .loop .i) (turn .loop .inv .1) (omega (arith, v .left)))
     (λ (v : _).
-    one-unsound ps full (turn .loop .i) (turn .loop .inv) (omega (arith, v .0 .taken)) _ (v .2 .ensures) (not-true _ (v .3 .taken)))
+    one-unsound ps full (turn .loop .i) (turn .loop .inv .1) (omega (arith, v .0 .taken)) _ (v .2 .ensures) (not-true _ (v .3 .taken)))
     (left .loop-test .came))
-    (⊎-elim
-    (λ (w : _).
-    let within = w .0 .taken in
-    phase-read ps at (found .if1 .here) full _ (number-least modelPhases at within) (number-most modelPhases at within) (w .2))
-    (λ (w : _). phase-none ps at (found .if1 .here) full (w .0 .left) (w .1 ∙ found .before .power-up .ensures))
-    (found .if1 .came))
-    (turn .before .is-sound .ensures) in
+    (turn .loop .inv .0) in
     byte-ready (k .args .self) _ _ _ _ sound (test .before .before .of-byte .ensures) (test .before .is-refused .ensures)
     (omega (arith, full)) (not-true _ (test .if3 .taken)) .1
 
@@ -143,21 +151,13 @@ told-requires c κs =
     let k = turn .before .before .before .before .before .before .before in
     let full = simp length-map at (k .good .0 .1 .1 .0 .1 .0 .1) in
     let ps = k .args .self .phases in
-    let at = k .args .self .device .core .run .place .current in
-    let found = turn .before .before in
     let sound =
-    whole-sound (k .args .self) (turn .loop .i) (found .if1 .here) _ full
-    (⊎-elim (λ (v : _). all-sound ps full (turn .loop .i) (turn .loop .inv) (omega (arith, v .left)))
+    whole-sound (k .args .self) (turn .loop .i) _ full
+    (⊎-elim (λ (v : _). all-sound ps full (turn .loop .i) (turn .loop .inv .1) (omega (arith, v .left)))
     (λ (v : _).
-    one-unsound ps full (turn .loop .i) (turn .loop .inv) (omega (arith, v .0 .taken)) _ (v .2 .ensures) (not-true _ (v .3 .taken)))
+    one-unsound ps full (turn .loop .i) (turn .loop .inv .1) (omega (arith, v .0 .taken)) _ (v .2 .ensures) (not-true _ (v .3 .taken)))
     (left .loop-test .came))
-    (⊎-elim
-    (λ (w : _).
-    let within = w .0 .taken in
-    phase-read ps at (found .if1 .here) full _ (number-least modelPhases at within) (number-most modelPhases at within) (w .2))
-    (λ (w : _). phase-none ps at (found .if1 .here) full (w .0 .left) (w .1 ∙ found .before .power-up .ensures))
-    (found .if1 .came))
-    (turn .before .is-sound .ensures) in
+    (turn .loop .inv .0) in
     let handy =
     byte-ready (k .args .self) _ _ _ _ sound (test .before .before .of-byte .ensures) (test .before .is-refused .ensures)
     (omega (arith, full)) (not-true _ (test .if3 .taken)) .0 in
@@ -189,21 +189,13 @@ returns c =
     let k = turn .before .before .before .before .before .before .before in
     let full = simp length-map at (k .good .0 .1 .1 .0 .1 .0 .1) in
     let ps = k .args .self .phases in
-    let at = k .args .self .device .core .run .place .current in
-    let found = turn .before .before in
     let sound =
-    whole-sound (k .args .self) (turn .loop .i) (found .if1 .here) _ full
-    (⊎-elim (λ (v : _). all-sound ps full (turn .loop .i) (turn .loop .inv) (omega (arith, v .left)))
+    whole-sound (k .args .self) (turn .loop .i) _ full
+    (⊎-elim (λ (v : _). all-sound ps full (turn .loop .i) (turn .loop .inv .1) (omega (arith, v .left)))
     (λ (v : _).
-    one-unsound ps full (turn .loop .i) (turn .loop .inv) (omega (arith, v .0 .taken)) _ (v .2 .ensures) (not-true _ (v .3 .taken)))
+    one-unsound ps full (turn .loop .i) (turn .loop .inv .1) (omega (arith, v .0 .taken)) _ (v .2 .ensures) (not-true _ (v .3 .taken)))
     (left .loop-test .came))
-    (⊎-elim
-    (λ (w : _).
-    let within = w .0 .taken in
-    phase-read ps at (found .if1 .here) full _ (number-least modelPhases at within) (number-most modelPhases at within) (w .2))
-    (λ (w : _). phase-none ps at (found .if1 .here) full (w .0 .left) (w .1 ∙ found .before .power-up .ensures))
-    (found .if1 .came))
-    (turn .before .is-sound .ensures) in
+    (turn .loop .inv .0) in
     let refusal = joined .before .before .of-byte .ensures in
     let tested = joined .before .is-refused .ensures in
     let given = c .unstepped .ensures in

@@ -1,9 +1,10 @@
 -- `Pump::is_sound` meets its contract.
 -- Assumes nothing.
-use mathlib.Core.Path.{_∙_}
+use mathlib.Core.Path.{ap, _∙_}
 use mathlib.Core.Logic.{⊎-elim}
 use native.Mathlib.Omega.{arith}
 use lib.ListN.{length-map}
+use Rattle.pump.specs.Device.{isSoundDevice}
 use Rattle.pump.specs.Holder.{modelPhases}
 use Rattle.pump.proofs.Holding.{whole-sound, not-false, not-true}
 use Rattle.pump.proofs.Phases.{number-least, number-most, phase-read, phase-none}
@@ -98,18 +99,19 @@ returns c =
     let full = simp length-map at (k .good .0 .1 .1 .0 .1 .0 .1) in
     let ps = k .args .self .phases in
     let at = k .args .self .device .core .run .place .current in
-    whole-sound (k .args .self) (turn .loop .i) (found .if1 .here) _ full
+    whole-sound (k .args .self) (turn .loop .i) _ full
     (⊎-elim (λ (v : _). all-sound ps full (turn .loop .i) (turn .loop .inv) (omega (arith, v .left)))
     (λ (v : _).
     one-unsound ps full (turn .loop .i) (turn .loop .inv) (omega (arith, v .0 .taken)) _ (v .2 .ensures) (not-true _ (v .3 .taken)))
     (c .loop-test .came))
+    (turn .before .is-sound .ensures
+    ∙ ap (isSoundDevice modelPhases (k .args .self .device))
     (⊎-elim
     (λ (w : _).
     let within = w .0 .taken in
     phase-read ps at (found .if1 .here) full _ (number-least modelPhases at within) (number-most modelPhases at within) (w .2))
     (λ (w : _). phase-none ps at (found .if1 .here) full (w .0 .left) (w .1 ∙ found .before .power-up .ensures))
-    (found .if1 .came))
-    (turn .before .is-sound .ensures)
+    (found .if1 .came)))
 
 pub is-sound-spec : {M : Type 1} → statement M
 is-sound-spec =

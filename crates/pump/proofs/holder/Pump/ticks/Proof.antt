@@ -11,6 +11,7 @@ use lib.ListN.{length-map}
 use borrow.Author.Needs.{needs}
 use borrow.Author.Tests.{ltb-true}
 use Rattle.base.proofs.Choices.{and-left, and-right}
+use Rattle.pump.specs.Device.{isSoundDevice}
 use Rattle.pump.specs.Holder.{modelPhases, phaseAt, isSoundPump}
 use Rattle.pump.specs.Reports.{Outcome}
 use Rattle.pump.proofs.Kept.{pump-link}
@@ -142,12 +143,12 @@ loop2-holds c =
     let k = turn .before .before .before .before .before .before in
     let full = simp length-map at (k .good .0 .1 .1 .0 .1 .0 .1) in
     let ps = k .args .self .phases in (
-      whole-sound (k .args .self) (turn .loop .i) _ _ full
+      whole-sound (k .args .self) (turn .loop .i) _ full
           (⊎-elim (λ (v : _). all-sound ps full (turn .loop .i) (turn .loop .inv .1) (omega (arith, v .left)))
           (λ (v : _).
           one-unsound ps full (turn .loop .i) (turn .loop .inv .1) (omega (arith, v .0 .taken)) _ (v .2 .ensures) (not-true _ (v .3 .taken)))
           (left .loop-test .came))
-          (turn .loop .inv .0) (turn .before .is-sound .ensures),
+          (turn .before .is-sound .ensures ∙ ap (isSoundDevice modelPhases (k .args .self .device)) (turn .loop .inv .0)),
       ran-none (k .args .self) (chosen .if3 .span) _ _ (c .from .ensures) (turn .loop .inv .0),
       calm-none (k .args .self) (chosen .if3 .span) _ (c .from .ensures),
     )

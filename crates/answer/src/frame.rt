@@ -16,7 +16,7 @@ const STX: u8 = 2;
 const ETX: u8 = 3;
 
 // What stands around an answer's text: STX and ETX alone, or a packet.
-#[derive(Drop)]
+#[derive(Clone, Copy)]
 pub enum Frame {
     Line,
     Packet,

@@ -4,6 +4,8 @@
 //   letters   the letters of the statuses, the alarms, the units and the directions
 //   writing   the bytes behind the address: numbers, units, names, and what each answer is made of
 //   frame     the whole answer: the address and the bytes behind it, between STX and ETX, or in a packet (document 02, 2/12)
+#![tactic(auto)]
+
 mod frame;
 mod letters;
 mod writing;

@@ -3,6 +3,8 @@
 // more is read, and of the input no more is kept than where in a line it stands.
 //
 // What the items do and print is the crate `player`; here it is read and written.
+#![tactic(auto)]
+
 ghost use Rattle.std.specs.Prelude.{◌≡◌};
 ghost use Rattle.player.specs.Scripts.{play};
 
@@ -24,7 +26,7 @@ fn main() {
     close(bench);
 }
 
-#[derive(Drop)]
+#[derive(Clone, Copy)]
 struct Served {
     bench: Bench,
     ended: bool,

@@ -8,7 +8,7 @@ use drive::{RateUnit, Syringe};
 use program::Run;
 use words::{Function, Phase, Units};
 
-#[derive(Drop)]
+#[derive(Clone, Copy)]
 pub enum Verdict {
     Accepted,
     NotApplicable,

@@ -6,6 +6,8 @@
 //   judging    whether a setting is accepted: DIA, RAT, VOL, DIR, PHN, FUN, CLD
 //   phases     the phase in hand with one thing set
 //   obeying    one command
+#![tactic(auto)]
+
 mod judging;
 mod obeying;
 mod phases;

@@ -15,7 +15,7 @@ use program::{Core, Mode, Run, Steered};
 use words::{Command, Function, Phase, Reply, Units};
 
 // What a command asks to be done to the table of phases: nothing; another phase in hand; all phases as at power-up.
-#[derive(Drop)]
+#[derive(Clone, Copy)]
 pub enum Edit {
     Keep,
     Write(Phase),
@@ -23,7 +23,7 @@ pub enum Edit {
 }
 
 // What a command does: the next core, the edit of the phases, and the reply.
-#[derive(Drop)]
+#[derive(Clone, Copy)]
 pub struct Obeyed {
     pub core: Core,
     pub edit: Edit,

@@ -3,6 +3,8 @@
 //
 // The definition goes bit by bit, as the check is defined; the code goes byte by byte, by 256 stored remainders, whose rule is proved
 // over all of them at once. What damage the check finds is in proofs/Theorems.antt.
+#![tactic(auto)]
+
 ghost use Rattle.std.specs.Prelude.{◌≡◌};
 ghost use Rattle.crc.specs.Check.{bits_of, after, check_of, remainders};
 

@@ -8,14 +8,14 @@ use drive::Direction;
 pub const MOST_TOTAL: u64 = 1_000_000_000_000_000_000;
 
 // A figure for each direction.
-#[derive(Drop)]
+#[derive(Clone, Copy)]
 pub struct Pair {
     pub infused: u64,
     pub withdrawn: u64,
 }
 
 // What was given in each direction since it was last cleared, in fl.
-#[derive(Drop)]
+#[derive(Clone, Copy)]
 pub struct Ledger {
     pub totals: Pair,
 }

@@ -4,6 +4,8 @@
 //   rates     the current rate: INC and DEC
 //   visits    a visit: due steps, target, time store
 //   ledgers   a figure for each direction; the totals and their booking
+#![tactic(auto)]
+
 mod ledgers;
 mod rates;
 mod visits;

@@ -6,7 +6,7 @@ use drive::{RateUnit, Syringe};
 
 // The current rate: its units, and how many thousandths of them. The unit comes first, so that no three bytes lie unused: the
 // compiler would carry them along at every tick.
-#[derive(Drop)]
+#[derive(Clone, Copy)]
 pub enum Rate {
     NoRate,
     Current(RateUnit, u32),

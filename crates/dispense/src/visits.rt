@@ -4,7 +4,7 @@ ghost use Rattle.drive.specs.Syringe.{most_threshold};
 ghost use Rattle.dispense.specs.Visits.{Working, work, is_done};
 
 // Steps given, step target (0: a continuous visit, which has none and counts none), and the time store.
-#[derive(Drop)]
+#[derive(Clone, Copy)]
 pub struct Visit {
     pub given: u64,
     pub target: u64,
@@ -12,7 +12,7 @@ pub struct Visit {
 }
 
 // A visit after a working tick, and the steps that the tick gives.
-#[derive(Drop)]
+#[derive(Clone, Copy)]
 pub struct Worked {
     pub visit: Visit,
     pub steps: u64,

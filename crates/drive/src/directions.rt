@@ -2,7 +2,7 @@
 ghost use Rattle.std.specs.Prelude.{◌≡◌};
 ghost use Rattle.drive.specs.Directions.{reverse};
 
-#[derive(Drop)]
+#[derive(Clone, Copy)]
 pub enum Direction {
     Infuse,
     Withdraw,

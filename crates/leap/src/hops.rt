@@ -7,7 +7,7 @@ use program::Run;
 use words::Function;
 
 // So many ticks, none of which gives a step or beeps, and the program after them.
-#[derive(Drop)]
+#[derive(Clone, Copy)]
 pub struct Hopped {
     pub run: Run,
     pub ticks: u32,

@@ -6,6 +6,8 @@
 //   visits     many working ticks of a visit
 //   pauses     many ticks of a timed pause
 //   reach      how many ticks of a visit to try
+#![tactic(auto)]
+
 mod hops;
 mod pauses;
 mod reach;
@@ -29,7 +31,7 @@ use words::Phase;
 pub const MOST_TICKS: u32 = 1_000_000;
 
 // So many ticks: the core after them, and the steps that they gave. None of them beeps.
-#[derive(Drop)]
+#[derive(Clone, Copy)]
 pub struct Leapt {
     pub core: Core,
     pub ticks: u32,

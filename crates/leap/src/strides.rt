@@ -5,7 +5,7 @@ ghost use Rattle.leap.specs.Leaps.{most_ticks};
 ghost use Rattle.leap.specs.Strides.{Steady, stride_over};
 
 // The steps due in some ticks, and the time store after them.
-#[derive(Drop)]
+#[derive(Clone, Copy)]
 pub struct Stride {
     pub steps: u64,
     pub store: u64,

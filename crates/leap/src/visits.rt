@@ -11,7 +11,7 @@ use drive::{Direction, Syringe};
 use program::{Run, Work};
 
 // What some working ticks of a visit make of the program and the ledger, the steps that they give, and how many ticks they are.
-#[derive(Drop)]
+#[derive(Clone, Copy)]
 pub struct Strode {
     pub run: Run,
     pub ledger: Ledger,

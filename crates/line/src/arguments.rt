@@ -9,7 +9,7 @@ use drive::{Direction, RateUnit};
 use words::{Command, Units};
 
 // A direction as DIR and CLD name it.
-#[derive(Drop)]
+#[derive(Clone, Copy)]
 pub enum Heading {
     To(Direction),
     Reverse,

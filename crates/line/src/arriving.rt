@@ -2,7 +2,7 @@
 ghost use Rattle.std.specs.Prelude.{◌≡◌};
 ghost use Rattle.line.specs.Characters.{arrival_of, can_stand};
 
-#[derive(Drop)]
+#[derive(Clone, Copy)]
 pub enum Arrival {
     End,
     Dropped,

@@ -9,7 +9,7 @@ use decimal::Short;
 use words::{Command, Function};
 
 // The function whose name leads a text; its datum is still 0.
-#[derive(Drop)]
+#[derive(Clone, Copy)]
 pub enum Called {
     By(Function),
     NoFunction,

@@ -11,6 +11,8 @@
 //   functions   what stands behind FUN: a function's name and its datum
 //   commands    the command that a text asks for
 //   requests    what a text asks for with its address: SAF of the link that it came by (document 02, 2/12), all else of the pump
+#![tactic(auto)]
+
 mod addresses;
 mod arguments;
 mod arriving;

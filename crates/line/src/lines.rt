@@ -9,7 +9,7 @@ use crate::commands::command_of;
 use crate::requests::asked_of;
 use words::{Asked, Command, Request};
 
-#[derive(Drop)]
+#[derive(Clone, Copy)]
 pub struct Line {
     pub bytes: [u8; 40],
     pub len: u8,
@@ -17,7 +17,7 @@ pub struct Line {
 }
 
 // A line after one byte, and whether that byte ended it.
-#[derive(Drop)]
+#[derive(Clone, Copy)]
 pub struct Arrived {
     pub line: Line,
     pub ended: bool,

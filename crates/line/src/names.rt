@@ -5,7 +5,7 @@ ghost use Rattle.line.specs.Names.{name_of, named_by, letters_of, argument_of};
 use crate::spelling::{leads, letter};
 
 // The commands by their names. A text that none of them leads has the name Unknown.
-#[derive(Drop)]
+#[derive(Clone, Copy)]
 pub enum Name {
     Dia,
     Rat,

@@ -3,6 +3,8 @@
 // the end of the timer is alarm T and that `?COM` is sent is said above; what a packet is, below.
 //
 // In Basic mode there is neither a timer nor a part packet, by type. The array stands beside the mode, since no enum holds an array.
+#![tactic(auto)]
+
 ghost use Rattle.std.specs.Prelude.{◌≡◌, true};
 ghost use Rattle.link.specs.Link.{basic_link, limited_to, safe_link, cleared_link, is_safe, limit_of, ticks_left};
 ghost use Rattle.link.specs.Link.{timer_left, timer_after, heard_by, link_after, timer_ticks, link_ticks, is_sound_timer, is_sound_link};
@@ -10,35 +12,35 @@ ghost use Rattle.link.specs.Link.{timer_left, timer_after, heard_by, link_after,
 use packet::{Arrived, Outcome, Place, Receiver};
 
 // The time limit's timer: it waits for the next good packet, or has so many ticks left until alarm T, the alarm's tick among them.
-#[derive(Drop)]
+#[derive(Clone, Copy)]
 pub enum Timer {
     Waits,
     Left(u32),
 }
 
 // Safe mode: the time limit in seconds, its timer, and where in a packet the bytes stand.
-#[derive(Drop)]
+#[derive(Clone, Copy)]
 pub struct Safety {
     pub limit: u8,
     pub timer: Timer,
     pub place: Place,
 }
 
-#[derive(Drop)]
+#[derive(Clone, Copy)]
 pub enum Mode {
     Basic,
     Safe(Safety),
 }
 
 // The bytes are the data of the packet under way, and zeros behind them.
-#[derive(Drop)]
+#[derive(Clone, Copy)]
 pub struct Link {
     pub bytes: [u8; 40],
     pub mode: Mode,
 }
 
 // A link after one byte, and what that byte told.
-#[derive(Drop)]
+#[derive(Clone, Copy)]
 pub struct Taken {
     pub link: Link,
     pub outcome: Outcome,

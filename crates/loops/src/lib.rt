@@ -1,10 +1,12 @@
 // The open loops (document 01, Ticks and phases): LPS opens one, LOP and LPE take the newest. At most three are open, begun by different
 // phases. The crate knows a phase by its number alone.
+#![tactic(auto)]
+
 ghost use Rattle.std.specs.Prelude.{◌≡◌, [], ◌∷◌, ◌++◌, ◌<◌, length, take};
 ghost use Rattle.base.specs.If.{if◌then◌else◌};
 ghost use Rattle.loops.specs.Loops.{none, lps, Turning, lop, lpe, is_sound_loops, opened, in_slots, before, newest, older};
 
-#[derive(Drop)]
+#[derive(Clone, Copy)]
 pub struct Loop {
     pub begun: u8,
     pub passes: u8,
@@ -17,21 +19,21 @@ const NO_LOOP: Loop = Loop {
 };
 
 // The newest open loop is the one at `count - 1`; LPS, LOP and LPE leave zeros in the places behind it.
-#[derive(Drop)]
+#[derive(Clone, Copy)]
 pub struct Loops {
     pub slots: [Loop; 3],
     pub count: u8,
 }
 
 // What LPS makes of the loops; with three still open they are full, and stay as they are.
-#[derive(Drop)]
+#[derive(Clone, Copy)]
 pub struct Began {
     pub loops: Loops,
     pub full: bool,
 }
 
 // What LOP and LPE make of the loops, and the phase that follows.
-#[derive(Drop)]
+#[derive(Clone, Copy)]
 pub struct Turn {
     pub loops: Loops,
     pub next: u8,

@@ -5,6 +5,8 @@
 //
 //   receiver   what has come of a packet, one byte more, and ticks with no byte
 //   sender     a packet of some data
+#![tactic(auto)]
+
 mod receiver;
 mod sender;
 

@@ -5,7 +5,7 @@ ghost use Rattle.packet.specs.Receiver.{outside_receiver, going_on, wrong_now, l
 ghost use Rattle.packet.specs.Receiver.{begun_by, taken_by, after_byte, sound_stage, sound_receiver, tick, ticks};
 
 // What the next byte of a packet is.
-#[derive(Drop)]
+#[derive(Clone, Copy)]
 pub enum Stage {
     // the length: STX alone has come
     Length,
@@ -20,25 +20,25 @@ pub enum Stage {
 }
 
 // A part packet, and for how many ticks no byte has come.
-#[derive(Drop)]
+#[derive(Clone, Copy)]
 pub struct Part {
     pub stage: Stage,
     pub quiet: u16,
 }
 
-#[derive(Drop)]
+#[derive(Clone, Copy)]
 pub enum Place {
     Outside,
     Inside(Part),
 }
 
-#[derive(Drop)]
+#[derive(Clone, Copy)]
 pub struct Receiver {
     pub bytes: [u8; 40],
     pub place: Place,
 }
 
-#[derive(Drop)]
+#[derive(Clone, Copy)]
 pub enum Outcome {
     // no answer is due for this byte
     Nothing,
@@ -48,7 +48,7 @@ pub enum Outcome {
     Good(u8),
 }
 
-#[derive(Drop)]
+#[derive(Clone, Copy)]
 pub struct Arrived {
     pub receiver: Receiver,
     pub outcome: Outcome,

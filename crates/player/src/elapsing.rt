@@ -10,7 +10,7 @@ const MILLION: u32 = 1_000_000;
 
 // The pump after some calls of many ticks, the ticks that are left, the sums of what the calls gave, the level of the output, whether one
 // of them was refused, and whether one sent a packet.
-#[derive(Drop)]
+#[derive(Clone, Copy)]
 pub struct Elapsed {
     pub pump: Pump,
     pub left: u32,

@@ -7,14 +7,14 @@ use crate::rigs::{Acted, ROOM, Rig};
 use script::Spot;
 
 // The rig, and where in a line the input stands.
-#[derive(Drop)]
+#[derive(Clone, Copy)]
 pub struct Bench {
     pub rig: Rig,
     pub place: Spot,
 }
 
 // The bench after a part of the input, how much of it was taken, and where what it printed ends.
-#[derive(Drop)]
+#[derive(Clone, Copy)]
 pub struct Fed {
     pub bench: Bench,
     pub taken: usize,

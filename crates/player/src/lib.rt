@@ -7,6 +7,8 @@
 //   rigs       the pump under test: what each act does to it and prints
 //   printing   lines, counts, the complaint
 //   feeding    the bytes of the input, one after the other, and its end
+#![tactic(auto)]
+
 mod elapsing;
 mod feeding;
 mod printing;

@@ -14,14 +14,14 @@ use script::Act;
 pub const ROOM: usize = 69;
 
 // The pump, and whether the present text has had an answer yet.
-#[derive(Drop)]
+#[derive(Clone, Copy)]
 pub struct Rig {
     pub pump: Pump,
     pub replied: bool,
 }
 
 // The rig after an act, and where what it printed ends.
-#[derive(Drop)]
+#[derive(Clone, Copy)]
 pub struct Acted {
     pub rig: Rig,
     pub end: usize,

@@ -6,7 +6,7 @@ use crate::state::{Mode, Run};
 use words::Reply;
 
 // The program under way after a command that concerns it alone, and the reply.
-#[derive(Drop)]
+#[derive(Clone, Copy)]
 pub struct Steered {
     pub run: Run,
     pub reply: Reply,

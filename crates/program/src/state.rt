@@ -5,7 +5,7 @@ use loops::Loops;
 use words::Alarm;
 
 // What the current phase is doing: it is entered where a visit, a timed pause (with its ticks left) or a trigger wait is under way.
-#[derive(Drop)]
+#[derive(Clone, Copy)]
 pub enum Work {
     Entering,
     Visiting(Visit),
@@ -14,27 +14,27 @@ pub enum Work {
 }
 
 // Where the program stands.
-#[derive(Drop)]
+#[derive(Clone, Copy)]
 pub struct Place {
     pub work: Work,
     pub current: u8,
 }
 
 // The phase that a set trap jumps to.
-#[derive(Drop)]
+#[derive(Clone, Copy)]
 pub enum Trap {
     NoTrap,
     Armed(u8),
 }
 
-#[derive(Drop)]
+#[derive(Clone, Copy)]
 pub enum Pending {
     NoAlarm,
     Raised(Alarm),
 }
 
 // An alarm is pending only in a stopped pump.
-#[derive(Drop)]
+#[derive(Clone, Copy)]
 pub enum Mode {
     Stopped(Pending),
     Paused,
@@ -43,7 +43,7 @@ pub enum Mode {
 
 // The program under way: starting, stopping and alarms replace it whole. The fields stand in an order in which the compiler takes a run apart
 // well: in others, a run of ticks was measured to take up to five times as long (docs/DECISIONS.md).
-#[derive(Drop)]
+#[derive(Clone, Copy)]
 pub struct Run {
     pub mode: Mode,
     pub rate: Rate,
@@ -53,7 +53,7 @@ pub struct Run {
 }
 
 // The levels: true is high.
-#[derive(Drop)]
+#[derive(Clone, Copy)]
 pub struct Pins {
     pub two: bool,
     pub four: bool,
@@ -61,7 +61,7 @@ pub struct Pins {
 }
 
 // All that is neither a phase nor the line. `output` is the level that OUT sets, `chosen` the phase that PHN chose.
-#[derive(Drop)]
+#[derive(Clone, Copy)]
 pub struct Core {
     pub ledger: Ledger,
     pub run: Run,

@@ -11,14 +11,14 @@ use packet::Outcome;
 use words::Asked;
 
 // What a byte brought to its end: nothing yet, a packet that is wrong, or a whole text.
-#[derive(Drop)]
+#[derive(Clone, Copy)]
 pub enum Brought {
     Nothing,
     Wrong,
     Text(Asked),
 }
 
-#[derive(Drop)]
+#[derive(Clone, Copy)]
 pub struct Arrival {
     pub device: Device,
     pub brought: Brought,

@@ -11,7 +11,7 @@ use link::Link;
 use words::{Asked, Phase, Reply, Said};
 
 // The pump after a whole text, and what it says: a value, whatever frames it.
-#[derive(Drop)]
+#[derive(Clone, Copy)]
 pub struct Listened {
     pub pump: Pump,
     pub said: Said,

@@ -11,7 +11,7 @@ use link::Link;
 use program::{Core, Pending};
 use words::{Alarm, Asked, Command, Function, Phase, Reply, Request, Said};
 
-#[derive(Drop)]
+#[derive(Clone, Copy)]
 pub struct Device {
     pub core: Core,
     pub line: Line,
@@ -19,7 +19,7 @@ pub struct Device {
 }
 
 // What a text is answered with, before the status is known: that is the status after the edit.
-#[derive(Drop)]
+#[derive(Clone, Copy)]
 pub enum Told {
     Nothing,
     Alarm(Alarm),
@@ -27,7 +27,7 @@ pub enum Told {
 }
 
 // What a whole text does: the device after it, what is to be done to the phases, and what is told.
-#[derive(Drop)]
+#[derive(Clone, Copy)]
 pub struct Heard {
     pub device: Device,
     pub edit: Edit,

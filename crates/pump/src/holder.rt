@@ -7,7 +7,7 @@ use crate::device::Device;
 use command::Edit;
 use words::Phase;
 
-#[derive(Drop)]
+#[derive(Clone, Copy)]
 pub struct Pump {
     pub phases: [Phase; 41],
     pub device: Device,

@@ -11,6 +11,8 @@
 //   reports   what every call hands back, and the refusals
 //   calls     the byte, the pin and the tick
 //   many      many ticks at a time
+#![tactic(auto)]
+
 mod arriving;
 mod calls;
 mod checks;

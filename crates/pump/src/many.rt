@@ -11,7 +11,7 @@ use program::Core;
 use words::Phase;
 
 // Ticks under way: the core after those that are done, how many are left, and the sums of steps and beeps.
-#[derive(Drop)]
+#[derive(Clone, Copy)]
 pub struct Going {
     pub core: Core,
     pub left: u32,

@@ -9,7 +9,7 @@ use crate::holder::Pump;
 use crate::many::Going;
 use answer::Frame;
 
-#[derive(Drop)]
+#[derive(Clone, Copy)]
 pub enum Refusal {
     Accepted,
     ShortBuffer,
@@ -90,7 +90,7 @@ impl Refusal {
 
 // The pump as it is then, the length of the answer, the steps in each direction, the beeps, the ticks done, the refusal, and the output's
 // level.
-#[derive(Drop)]
+#[derive(Clone, Copy)]
 pub struct Report {
     pub pump: Pump,
     pub length: usize,

@@ -6,6 +6,8 @@
 //   numbers    the numbers of an item, as their digits come
 //   bytes      a byte at each place
 //   reading    one byte more of a line
+#![tactic(auto)]
+
 mod bytes;
 mod numbers;
 mod places;

@@ -4,7 +4,7 @@ ghost use Rattle.script.specs.Places.{is_deed};
 
 // What is to be done: nothing, send a byte (behind a return that was held back), end a text (likewise), set a pin, run ticks, say
 // that there is no such item.
-#[derive(Drop)]
+#[derive(Clone, Copy)]
 pub enum Act {
     Wait,
     Send(bool, u8),
@@ -29,7 +29,7 @@ impl Act {
 // Before a line; in a text, and whether a return is held back, since it may belong to the line's end; behind a `T`, in its number;
 // behind an `E`, in its pin and in its level, each with whether a digit came; behind a return that may belong to the line's end,
 // with what the line then asks for; in a line that is no item.
-#[derive(Drop)]
+#[derive(Clone, Copy)]
 pub enum Spot {
     Start,
     Text(bool),
@@ -42,7 +42,7 @@ pub enum Spot {
     Bad,
 }
 
-#[derive(Drop)]
+#[derive(Clone, Copy)]
 pub struct Step {
     pub place: Spot,
     pub act: Act,

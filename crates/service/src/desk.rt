@@ -9,7 +9,7 @@ use pump::{Pump, Refusal};
 use script::{Act, Spot};
 
 // The pump as the bench program has it, and where in a line the input stands.
-#[derive(Drop)]
+#[derive(Clone, Copy)]
 pub struct Desk {
     pub rig: Rig,
     pub place: Place,

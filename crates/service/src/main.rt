@@ -6,6 +6,8 @@
 //   places    where in a line the input stands, and what a byte asks for there
 //   desk      what is asked for is done to the pump, and printed
 //   printing  lines: what ticks gave, the answer to a byte, a packet that a tick sent
+#![tactic(auto)]
+
 mod desk;
 mod places;
 mod printing;
@@ -30,7 +32,7 @@ fn main() {
     desk.close(held);
 }
 
-#[derive(Drop)]
+#[derive(Clone, Copy)]
 struct Served {
     desk: Desk,
     ended: bool,

@@ -13,7 +13,7 @@ pub const MOST_DATA: usize = 40;
 
 // What is to be done: what the bench program would do; let so many ticks pass; send so many of the bytes that are held, as they are or as
 // the data of a packet.
-#[derive(Drop)]
+#[derive(Clone, Copy)]
 pub enum Ask {
     Bench(Act),
     Elapse(u32),
@@ -25,7 +25,7 @@ pub enum Ask {
 // with how many are held, and behind the first digit of a byte; in the text of a `P` line, with how many bytes are held, and how many of
 // them are the text if the line ends here: a return that stands last then belongs to its end; behind a return that may belong to the end of
 // another line, with what the line then asks for.
-#[derive(Drop)]
+#[derive(Clone, Copy)]
 pub enum Place {
     Line(Spot),
     Tick,
@@ -37,7 +37,7 @@ pub enum Place {
     Returned(Ask),
 }
 
-#[derive(Drop)]
+#[derive(Clone, Copy)]
 pub struct Turn {
     pub place: Place,
     pub ask: Ask,

@@ -1,6 +1,8 @@
 // Bytes against the clock: packets in Safe mode and lines in Basic mode, with their answers. One function for tests/speed, and nothing
 // else. The pump starts on a table that is chosen at run time, as it does for ticks, and `byte` is called in one place alone: else what is
 // timed is how the compiler takes apart a pump that it knows.
+#![tactic(auto)]
+
 use test_tables::running;
 
 // Of kind 0 the first eight bytes lead into Safe mode, and then it is the query DIA as a packet; of any other it is DIA twice, as lines.

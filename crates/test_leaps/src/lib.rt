@@ -1,4 +1,6 @@
 // Ticks against the clock, many a call: one function for tests/speed, and nothing else.
+#![tactic(auto)]
+
 use test_tables::running;
 
 // The steps infused by that many calls of so many ticks each.

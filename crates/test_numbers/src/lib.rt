@@ -3,6 +3,8 @@
 //
 // Nothing checks the declarations on the side of C, so only numbers and slices of bytes pass. A slice is two arguments
 // there, a pointer and a length.
+#![tactic(auto)]
+
 ghost use Rattle.std.specs.Prelude.{◌≡◌};
 ghost use Rattle.decimal.specs.Print.{print, print_tenths, print_two};
 ghost use Rattle.decimal.specs.Read.{read};

@@ -1,5 +1,7 @@
 // Ticks against the clock, one a call: one function for tests/speed, and nothing else. Calls of many are timed in a module of their own
 // (test_leaps): what else is in a module alters how the compiler lays out a call.
+#![tactic(auto)]
+
 use test_tables::running;
 
 // The steps infused by that many calls of a tick; all tables infuse.

@@ -3,6 +3,8 @@
 //
 // A table is chosen at run time: from one that the compiler knew, it would take the pump apart into its 41 phases and move them one by
 // one.
+#![tactic(auto)]
+
 use drive::{Direction, RateUnit, Syringe};
 use program::Run;
 use pump::{Device, Pump};

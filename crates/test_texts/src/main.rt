@@ -9,6 +9,8 @@
 //   V micrometres x      the step target of a volume
 //   R micrometres x      a rate in MH: its fl an hour, and whether it is usable
 //   anything else        !
+#![tactic(auto)]
+
 mod items;
 mod numbers;
 mod show;

@@ -11,6 +11,8 @@
 //   states   the sound states that the cases start from, and one part of a state replaced
 //   show     a case's line
 //   ranges, programs, links: the cases, by the clauses
+#![tactic(auto)]
+
 mod links;
 mod programs;
 mod ranges;

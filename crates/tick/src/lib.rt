@@ -4,6 +4,8 @@
 //
 //   entering    entering a phase, function by function
 //   working     working an entered phase: visit, timed pause
+#![tactic(auto)]
+
 mod entering;
 mod working;
 
@@ -19,7 +21,7 @@ pub use working::Given;
 use working::{work_pause, work_visit};
 
 // What a tick does: the next core, the steps in each direction, and whether it beeps.
-#[derive(Drop)]
+#[derive(Clone, Copy)]
 pub struct Moved {
     pub core: Core,
     pub infused: u8,

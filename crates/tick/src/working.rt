@@ -8,7 +8,7 @@ use program::{Run, Work};
 use words::Alarm;
 
 // What a working tick of a visit makes of the program and the ledger, and the steps that it gives.
-#[derive(Drop)]
+#[derive(Clone, Copy)]
 pub struct Given {
     pub run: Run,
     pub ledger: Ledger,

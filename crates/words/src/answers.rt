@@ -3,7 +3,7 @@ use crate::functions::Function;
 use drive::{Direction, RateUnit, VolumeUnit};
 
 // What the pump is doing.
-#[derive(Drop)]
+#[derive(Clone, Copy)]
 pub enum Status {
     Stopped,
     Paused,
@@ -14,7 +14,7 @@ pub enum Status {
 }
 
 // R: the pump was switched on. E: the program met something that it cannot do. T: the time limit of Safe mode passed.
-#[derive(Drop)]
+#[derive(Clone, Copy)]
 pub enum Alarm {
     PowerUp,
     Program,
@@ -22,7 +22,7 @@ pub enum Alarm {
 }
 
 // What an answer says beside the status.
-#[derive(Drop)]
+#[derive(Clone, Copy)]
 pub enum Reply {
     // the status and nothing else
     Status,
@@ -47,7 +47,7 @@ pub enum Reply {
 }
 
 // An answer as a value; it becomes bytes only where it is framed. An alarm stands in the status's place.
-#[derive(Drop)]
+#[derive(Clone, Copy)]
 pub enum Said {
     Nothing,
     Alarm(Alarm),

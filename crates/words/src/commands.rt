@@ -3,13 +3,13 @@ use crate::functions::Function;
 use drive::{Direction, RateUnit};
 
 // The units that a rate was sent with.
-#[derive(Drop)]
+#[derive(Clone, Copy)]
 pub enum Units {
     Own,
     Given(RateUnit),
 }
 
-#[derive(Drop)]
+#[derive(Clone, Copy)]
 pub enum Command {
     // an over-long line, an unknown name or a malformed argument
     Malformed,
@@ -37,7 +37,7 @@ pub enum Command {
 }
 
 // What a text asks for: SAF is asked of the link that it came by, every other command of the pump.
-#[derive(Drop)]
+#[derive(Clone, Copy)]
 pub enum Request {
     AskLimit,
     // seconds
@@ -46,7 +46,7 @@ pub enum Request {
 }
 
 // A text that was heard: the address that it bears, and what it asks for.
-#[derive(Drop)]
+#[derive(Clone, Copy)]
 pub struct Asked {
     pub address: u8,
     pub request: Request,

@@ -5,7 +5,7 @@ ghost use Rattle.words.specs.Functions.{number, datum, is_flow, is_ramp, is_rate
 ghost use Rattle.words.specs.Functions.{takes_datum, fits, pause_ticks};
 ghost use Rattle.words.specs.Spelling.{function_name};
 
-#[derive(Drop)]
+#[derive(Clone, Copy)]
 pub enum Function {
     Rat,
     Inc,

@@ -5,6 +5,8 @@
 //   phases      the phase record: sound, at power-up
 //   commands    the commands with their data, and what a text asks for: of the pump, or of the link that it came by
 //   answers     the statuses, the alarms, the replies, and what is said
+#![tactic(auto)]
+
 mod answers;
 mod commands;
 mod functions;

@@ -6,7 +6,7 @@ use crate::functions::Function;
 use drive::{Direction, RateUnit};
 
 // Rate and volume in thousandths, the rate of its own unit, the volume of the unit that the diameter gives.
-#[derive(Drop)]
+#[derive(Clone, Copy)]
 pub struct Phase {
     pub rate: u32,
     pub volume: u32,

@@ -2,19 +2,15 @@
 -- Assumes nothing.
 use mathlib.Core.Path.{◌≡◌, refl}
 use mathlib.Core.Bool.{true, false}
-use mathlib.Core.List.{[], ◌∷◌}
 use Prim.Native.Nat.{ℕ}
 use native.Mathlib.Omega.{arith}
-use denote.Enum.Declared.{tag_of}
-use types.Run.{OneOf, miss}
 use Rattle.script.specs.Places.{is_deed}
 use Rattle.script.specs.declared.places.Act.{Act}
 use Rattle.script.specs.declared.places.Act.TheVariants.{Wait, Send, Finish, Set, Run, Complain}
-use Rattle.script.specs.contracts.places.Act.{the_type}
 
 -- all but the first case, by which `_` is told
-pub deeds : (a : Act) → OneOf (1 ∷ 2 ∷ 3 ∷ 4 ∷ 5 ∷ []) (tag_of the_type a) → true ≡ is_deed a
-deeds Wait h = absurd (miss (1 ∷ 2 ∷ 3 ∷ 4 ∷ 5 ∷ []) 0 tt h)
+pub deeds : (a : Act) → (a ≡ Wait → ⊥) → true ≡ is_deed a
+deeds Wait h = absurd (h refl)
 deeds (Send held b) h = refl
 deeds (Finish held) h = refl
 deeds (Set pin level) h = refl

@@ -1,0 +1,10 @@
+-- `behind_tick` meets its contract: a blank behind `T`.
+-- Assumes nothing.
+use Rattle.script.proofs.Letters.{bytes}
+use Rattle.script.proofs.bytes.behind_tick.Goals as goal
+
+pub returns-then-b-eq32 : goal.returns-then-b-eq32
+returns-then-b-eq32 c = search bytes
+
+pub returns : goal.returns
+returns c = search bytes

@@ -1,6 +1,7 @@
 -- Many ticks of the pump are as many of its core and of its link, up to one that sends an alarm, and stay sound; what is known with some
 -- of them left.
 -- Assumes nothing.
+use Rattle.std.specs.Prelude.{if◌then◌else◌}
 use Prim.Native.Nat.{ℕ, zero, suc, ◌+◌, ◌-◌, ◌*◌, ◌≤◌, ◌<◌}
 use mathlib.Core.Path.{◌≡◌, refl, sym, ap, ◌∙◌, subst}
 use mathlib.Core.Logic.{◌⊎◌, inl, inr}
@@ -12,7 +13,6 @@ use native.Mathlib.Omega.{arith}
 use lib.Dec.{ltb, eqb}
 use lib.ListN.{length}
 use borrow.Author.Tests.{le-leb, le-ltb, ltb-true, ltb-false, ne_eqb}
-use Rattle.base.specs.If.{if◌then◌else◌}
 use Rattle.base.proofs.Choices.{and_left, and_right, false_true}
 use Rattle.words.specs.declared.answers.Alarm.{Alarm}
 use Rattle.words.specs.declared.answers.Alarm.TheVariants.{TimeOut}

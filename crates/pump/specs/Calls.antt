@@ -1,7 +1,6 @@
 -- The calls, refusals included: for each the new state, the whole report and, where one is handed in, the whole buffer.   (01, Calls;
 -- 02, 1/12 and 2/12)
-use Rattle.std.specs.Prelude.{ℕ, zero, suc, ◌+◌, ◌≤◌, List, eqb, length}
-use Rattle.base.specs.If.{if◌then◌else◌}
+use Rattle.std.specs.Prelude.{ℕ, zero, suc, ◌+◌, ◌≤◌, List, eqb, length, if◌then◌else◌}
 use Rattle.words.specs.declared.answers.Reply.TheVariants.{Garbled}
 use Rattle.words.specs.declared.answers.Said.{Said}
 use Rattle.words.specs.declared.answers.Said.TheVariants as said

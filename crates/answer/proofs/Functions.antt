@@ -1,5 +1,6 @@
 -- What is printed of a function: its name, which leads its three places, and its datum, by the tests that find it.
 -- Assumes nothing.
+use Rattle.std.specs.Prelude.{if◌then◌else◌}
 use Prim.Native.Nat.{ℕ, ◌-◌, ◌≤◌}
 use mathlib.Core.Path.{◌≡◌, sym, ◌∙◌}
 use mathlib.Core.Bool.{Bool, true, false, ◌||◌}
@@ -9,7 +10,6 @@ use native.Mathlib.Omega.{arith}
 use borrow.Author.Tests.{eq-eqb, ne_eqb}
 use lib.Dec.{eqb}
 use lib.ListN.{length, take}
-use Rattle.base.specs.If.{if◌then◌else◌}
 use Rattle.decimal.specs.Print.{last_digit, print_two, print_tenths}
 use Rattle.words.specs.Functions.{number, datum, takes_phase, takes_count, is_out}
 use Rattle.words.specs.Spelling.{function_name, datum_text}

@@ -1,5 +1,6 @@
 -- How many bytes each part of an answer has.
 -- Assumes nothing.
+use Rattle.std.specs.Prelude.{if◌then◌else◌}
 use Prim.Native.Nat.{ℕ, ◌+◌, ◌≤◌}
 use mathlib.Core.Path.{◌≡◌, refl}
 use mathlib.Core.Bool.{Bool, true, false, ◌||◌}
@@ -7,7 +8,6 @@ use mathlib.Core.List.{List, [], ◌∷◌}
 use native.Mathlib.Omega.{arith}
 use lib.Dec.{eqb}
 use lib.ListN.{length, length-append}
-use Rattle.base.specs.If.{if◌then◌else◌}
 use Rattle.decimal.specs.Print.{last_digit, print_two, print_tenths}
 use Rattle.decimal.proofs.Theorems.{printed_length, two_length, three_length, tenths_length}
 use Rattle.drive.specs.declared.rates.RateUnit.{RateUnit}

@@ -1,6 +1,5 @@
 -- The whole answer, as a line or as a packet, and the buffer that it is written to.   (01, Line and answer; Calls; 02, 2/12)
-use Rattle.std.specs.Prelude.{ℕ, List, [], ◌∷◌, ◌++◌, leb, length, drop}
-use Rattle.base.specs.If.{if◌then◌else◌}
+use Rattle.std.specs.Prelude.{ℕ, List, [], ◌∷◌, ◌++◌, leb, length, drop, if◌then◌else◌}
 use Rattle.base.specs.Text.{text}
 use Rattle.decimal.specs.Print.{print_two}
 use Rattle.packet.specs.Packets.{packet_of}

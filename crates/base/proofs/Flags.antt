@@ -1,11 +1,11 @@
 -- A flag as a count: 1 where it is set, else 0.
 -- Assumes nothing.
+use Rattle.std.specs.Prelude.{if◌then◌else◌}
 use Prim.Native.Nat.{◌≤◌}
 use mir.Val as mir-val
 use mathlib.Core.Path.{◌≡◌, refl}
 use mathlib.Core.Bool.{Bool, true, false}
 use native.Mathlib.Omega.{arith}
-use Rattle.base.specs.If.{if◌then◌else◌}
 
 pub flag_counted : (b : Bool) → mir-val.bool_byte b ≡ (if b then 1 else 0)
 flag_counted true = refl

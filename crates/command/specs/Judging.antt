@@ -1,7 +1,6 @@
 -- Whether a setting is accepted: first whether it applies now, then whether its data are in range.   (01, Commands; Line and answer:
 -- "Checks in order")
-use Rattle.std.specs.Prelude.{ℕ, Bool, true, false, ◌&&◌, not, ltb, eqb}
-use Rattle.base.specs.If.{if◌then◌else◌}
+use Rattle.std.specs.Prelude.{ℕ, Bool, true, false, ◌&&◌, not, ltb, eqb, if◌then◌else◌}
 use Rattle.drive.specs.Rates.{is_usable}
 use Rattle.drive.specs.Syringe.{is_diameter}
 use Rattle.drive.specs.declared.rates.RateUnit.{RateUnit}

@@ -1,7 +1,6 @@
 -- One command, with the phase in hand, the function of the phase one number higher, and the number of phases: the next core, what is
 -- to be done to the table of phases, and the reply.   (01, Commands)
-use Rattle.std.specs.Prelude.{ℕ}
-use Rattle.base.specs.If.{if◌then◌else◌}
+use Rattle.std.specs.Prelude.{ℕ, if◌then◌else◌}
 use Rattle.drive.specs.Directions.{reverse}
 use Rattle.drive.specs.declared.directions.Direction.{Direction}
 use Rattle.words.specs.declared.answers.Reply.{Reply}

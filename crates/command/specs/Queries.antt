@@ -1,6 +1,5 @@
 -- What a query answers. The phase in hand is the running one while operating, else the chosen one.   (01, Commands: the queries)
-use Rattle.std.specs.Prelude.{ℕ, ◌/◌, ◌&&◌, leb, ltb}
-use Rattle.base.specs.If.{if◌then◌else◌}
+use Rattle.std.specs.Prelude.{ℕ, ◌/◌, ◌&&◌, leb, ltb, if◌then◌else◌}
 use Rattle.drive.specs.Syringe.{volume_unit, thousandth}
 use Rattle.drive.specs.declared.syringe.Syringe.{Syringe}
 use Rattle.words.specs.Functions.{is_flow, is_ramp, is_rate_phase}

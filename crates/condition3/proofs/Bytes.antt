@@ -1,6 +1,7 @@
 -- A byte: the pump and the books agree behind it. In Basic mode it joins the line, or ends it; in Safe mode it joins the packet under way,
 -- or makes it wrong, or good; and the text of a line or of a good packet is heard.
 -- Assumes nothing.
+use Rattle.std.specs.Prelude.{if◌then◌else◌}
 use Prim.Native.Nat.{ℕ, ◌≤◌}
 use mathlib.Core.Path.{◌≡◌, refl, sym, ap, ap₂, ◌∙◌, subst}
 use mathlib.Core.Bool.{Bool, true, false}
@@ -9,7 +10,6 @@ use native.Mathlib.Omega.{arith}
 use lib.Dec.{eqb, ltb}
 use lib.ListN.{length, take}
 use borrow.Author.Tests.{eq-eqb, ne_eqb, lt-ltb}
-use Rattle.base.specs.If.{if◌then◌else◌}
 use Rattle.base.proofs.Choices.{false_true}
 use Rattle.words.specs.declared.answers.Reply.TheVariants as reply
 use Rattle.words.specs.declared.answers.Said.TheVariants as said

@@ -1,5 +1,6 @@
 -- A tick that enters a phase, function by function: the pump and the books agree behind it.
 -- Assumes nothing.
+use Rattle.std.specs.Prelude.{if◌then◌else◌}
 use Prim.Native.Nat.{ℕ, ◌+◌, ◌≤◌}
 use mathlib.Core.Path.{◌≡◌, refl, sym, ap, ◌∙◌, subst}
 use mathlib.Core.Bool.{Bool, true, false, not, ◌&&◌, ◌||◌}
@@ -8,7 +9,6 @@ use native.Mathlib.Omega.{arith}
 use lib.Dec.{eqb, ltb, leb}
 use lib.ListN.{length, length-take}
 use borrow.Author.Tests.{leb-true, ne_eqb, lt-leb}
-use Rattle.base.specs.If.{if◌then◌else◌}
 use Rattle.base.proofs.Choices.{and_false, false_true}
 use Rattle.drive.specs.Syringe.{step_target}
 use Rattle.words.specs.Functions.{number, datum, is_beep, pause_ticks}

@@ -1,10 +1,10 @@
 -- Runs from power-up, computed from the definitions: the claims speak of something.   (01, Marked figures: the bench program)
 -- Assumes nothing.
+use Rattle.std.specs.Prelude.{if◌then◌else◌}
 use Prim.Native.Nat.{ℕ}
 use mathlib.Core.Path.{◌≡◌, refl}
 use mathlib.Core.List.{List, [], ◌∷◌, ◌++◌}
 use lib.ListN.{length}
-use Rattle.base.specs.If.{if◌then◌else◌}
 use Rattle.base.specs.Rows.{Gives}
 use Rattle.base.specs.Text.{text}
 use Rattle.drive.specs.declared.directions.Direction.TheVariants.{Infuse}

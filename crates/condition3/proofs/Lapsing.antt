@@ -1,13 +1,13 @@
 -- What the link adds to the work of a tick: a packet with no byte for 500 ticks is dropped; with the last tick of the time limit alarm T
 -- stops the pump, once that work is done; and an alarm is sent. The pump and the books agree behind it.   (02, 2/12)
 -- Assumes nothing.
+use Rattle.std.specs.Prelude.{if◌then◌else◌}
 use Prim.Native.Nat.{ℕ, ◌+◌, ◌*◌, ◌≤◌}
 use mathlib.Core.Path.{◌≡◌, refl, sym, ap, ap₂, ◌∙◌, subst}
 use mathlib.Core.Bool.{Bool, true, false, not, ◌&&◌, ◌||◌, or-true}
 use mathlib.Core.List.{List, []}
 use lib.Dec.{eqb, leb}
 use lib.ListN.{length}
-use Rattle.base.specs.If.{if◌then◌else◌}
 use Rattle.base.proofs.Choices.{and_false, false_true}
 use Rattle.drive.specs.declared.directions.Direction.{Direction}
 use Rattle.words.specs.declared.answers.Alarm.TheVariants.{TimeOut}

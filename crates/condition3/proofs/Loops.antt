@@ -1,5 +1,6 @@
 -- LPS, LOP and LPE do to the stored loops, the oldest first, what the observer does to his, the newest first.
 -- Assumes nothing.
+use Rattle.std.specs.Prelude.{if◌then◌else◌}
 use Prim.Native.Nat.{ℕ, ◌+◌, ◌≤◌, ◌<◌}
 use mathlib.Core.Path.{◌≡◌, refl, sym, ap, ◌∙◌, subst}
 use mathlib.Core.Bool.{Bool, true, false}
@@ -8,7 +9,6 @@ use native.Mathlib.Omega.{arith}
 use lib.Dec.{leb, eqb}
 use lib.ListN.{length, get_or, length-reverse, length-append}
 use borrow.Author.Tests.{eqb-true, leb-false}
-use Rattle.base.specs.If.{if◌then◌else◌}
 use Rattle.loops.specs.Loops as stored
 use Rattle.loops.specs.Loops.{no_loop, opened, in_slots}
 use Rattle.loops.specs.declared.Loop.{Loop}

@@ -1,6 +1,7 @@
 -- The books behind an accepted call, by what a tick did and by whether what is under way is dropped; and what is to be shown for the pump
 -- and the books to agree behind it.
 -- Assumes nothing.
+use Rattle.std.specs.Prelude.{if◌then◌else◌}
 use Prim.Native.Nat.{ℕ, ◌+◌, ◌*◌, ◌/◌, ◌<◌}
 use mathlib.Core.Path.{◌≡◌, refl, sym, ap, ap₂, ◌∙◌, subst}
 use mathlib.Core.Bool.{Bool, true, false, not, ◌&&◌, ◌||◌}
@@ -9,7 +10,6 @@ use native.Mathlib.Omega.{arith}
 use lib.Dec.{eqb, ltb, leb}
 use lib.ListN.{length, take}
 use borrow.Author.Tests.{ltb-true, lt-leb}
-use Rattle.base.specs.If.{if◌then◌else◌}
 use Rattle.base.specs.Text.{text}
 use Rattle.base.proofs.Choices.{false_true}
 use Rattle.drive.specs.declared.directions.Direction.{Direction}

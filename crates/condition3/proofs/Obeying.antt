@@ -1,6 +1,7 @@
 -- One command. CLD and *RESET alone touch a total, and are told by their reply; RUN n starts afresh, and is told by its reply; behind every
 -- other the pump is stopped, or the program goes on as it was, in a phase that is the same to the visit under way.
 -- Assumes nothing.
+use Rattle.std.specs.Prelude.{if◌then◌else◌}
 use Prim.Native.Nat.{ℕ, ◌≤◌}
 use mathlib.Core.Path.{◌≡◌, refl, sym, ap, ◌∙◌}
 use mathlib.Core.Bool.{Bool, true, false, ◌&&◌, ◌||◌, not}
@@ -8,7 +9,6 @@ use mathlib.Core.List.{[]}
 use native.Mathlib.Omega.{arith}
 use lib.Dec.{eqb}
 use borrow.Author.Tests.{ne_eqb, eqb-true}
-use Rattle.base.specs.If.{if◌then◌else◌}
 use Rattle.base.proofs.Choices.{and_right, false_true}
 use Rattle.drive.specs.Syringe.{is_diameter}
 use Rattle.drive.specs.Directions.{reverse}

@@ -6,6 +6,7 @@
 --     reset_as_asked    what asks the engine for *RESET he takes for it
 --     collected_more    a line that has collected one byte more is the line after that byte
 -- Assumes nothing.
+use Rattle.std.specs.Prelude.{if◌then◌else◌}
 use Prim.Native.Nat.compare
 use Prim.Native.Nat.{ℕ, ◌+◌, ◌≤◌, ◌<◌}
 use mathlib.Core.Path.{◌≡◌, refl, sym, ap, subst, ◌∙◌}
@@ -17,7 +18,6 @@ use lib.Dec.{leb, ltb, eqb}
 use lib.ListN.{length, drop, drop_of_length-le}
 use lib.Seq.{take_all}
 use borrow.Author.Tests.{eqb-true, eqb-false, ne_eqb, eq-eqb, ltb-true, ltb-false, lt-ltb, le-ltb}
-use Rattle.base.specs.If.{if◌then◌else◌}
 use Rattle.base.specs.Text.{text}
 use Rattle.base.proofs.Choices.{and_left, and_right, and_false, false_true}
 use Rattle.decimal.specs.Read.{is_digit, read}

@@ -1,6 +1,7 @@
 -- The packet under way, in the link and in the books: a byte and a tick lead both to the same; and what the observer reads in a packet that
 -- is whole is its data.
 -- Assumes nothing.
+use Rattle.std.specs.Prelude.{if◌then◌else◌}
 use Prim.Native.Nat.{ℕ, ◌+◌, ◌-◌, ◌<◌, ◌≤◌}
 use mathlib.Core.Path.{◌≡◌, refl, sym, ap, ap₂, subst, ◌∙◌}
 use mathlib.Core.Bool.{Bool, true, false, ◌&&◌, ◌||◌, or-true}
@@ -10,7 +11,6 @@ use lib.Dec.{leb, ltb, eqb}
 use lib.ListN.{length, take, drop, length-append, length-drop}
 use lib.Seq.{take_at}
 use borrow.Author.Tests.{ltb-true, ltb-false, leb-true, leb-false, eq-eqb, ne_eqb}
-use Rattle.base.specs.If.{if◌then◌else◌}
 use Rattle.base.proofs.Choices.{false_true}
 use Rattle.packet.specs.Follows.{standing_in, standing, heard, Sound}
 use Rattle.packet.specs.Packets.{etx, check_bytes, packet_of, Heard, nothing, wrong, good, is_length, is_check, ending, judged}

@@ -1,11 +1,11 @@
 -- A level of a pin: the pump and the books agree behind it.
 -- Assumes nothing.
+use Rattle.std.specs.Prelude.{if◌then◌else◌}
 use Prim.Native.Nat.{ℕ, ◌+◌, ◌*◌}
 use mathlib.Core.Path.{◌≡◌, refl, sym, ap, ◌∙◌, subst}
 use mathlib.Core.Bool.{Bool, true, false, not, ◌&&◌, or-false}
 use native.Mathlib.Omega.{arith}
 use lib.Dec.{eqb}
-use Rattle.base.specs.If.{if◌then◌else◌}
 use Rattle.base.specs.Text.{letter}
 use Rattle.base.proofs.Choices.{and_left, and_false, false_true}
 use Rattle.drive.specs.declared.directions.Direction.{Direction}

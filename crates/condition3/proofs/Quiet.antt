@@ -1,9 +1,9 @@
 -- Every call but a tick: it gives no step; where what is under way is dropped, nothing is under way behind it, and else all is as it was.
 -- Assumes nothing.
+use Rattle.std.specs.Prelude.{if◌then◌else◌}
 use mathlib.Core.Path.{◌≡◌, refl, sym, ap, ◌∙◌, subst}
 use mathlib.Core.Bool.{Bool, true, false, ◌||◌}
 use native.Mathlib.Omega.{arith}
-use Rattle.base.specs.If.{if◌then◌else◌}
 use Rattle.base.specs.Text.{text}
 use Rattle.drive.specs.declared.syringe.Syringe.{Syringe}
 use Rattle.words.specs.declared.phases.Phase.{Phase}

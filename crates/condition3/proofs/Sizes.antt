@@ -1,6 +1,7 @@
 -- The observer's volumes, targets and rates are those of the drive, though he works them out by himself; and a visit that is whole gave as
 -- many steps as fit.
 -- Assumes nothing.
+use Rattle.std.specs.Prelude.{if◌then◌else◌}
 use Prim.Native.Nat.{ℕ, zero, suc, ◌+◌, ◌*◌, ◌/◌, ◌≤◌, ◌<◌}
 use mathlib.Core.Path.{◌≡◌, refl, sym, ap, ap₂, ◌∙◌}
 use mathlib.Core.Bool.{Bool, true, false, ◌&&◌}
@@ -8,7 +9,6 @@ use native.Mathlib.Nat.{lt-div-mul-add, div-mul-le_self, mul-le-mul, le_refl}
 use native.Mathlib.Omega.{arith}
 use lib.Dec.{leb, ltb, eqb}
 use borrow.Author.Tests.{ltb-true, ltb-false, lt-ltb, le-ltb, leb-true, lt-leb, ne_eqb}
-use Rattle.base.specs.If.{if◌then◌else◌}
 use Rattle.base.proofs.Choices.{and_left, and_right}
 use Rattle.drive.specs.Rates as drive
 use Rattle.drive.specs.Rates.{hourly_rate}

@@ -1,13 +1,13 @@
 -- In Basic mode a tick does its work and no more; and so a stopped pump stays as it is, however long one waits, and every tick of it is
 -- silent.
 -- Assumes nothing.
+use Rattle.std.specs.Prelude.{if◌then◌else◌}
 use Prim.Native.Nat.{ℕ, zero, suc, ◌≤◌}
 use mathlib.Core.Path.{◌≡◌, refl, sym, ap, ap₂, ◌∙◌, subst}
 use mathlib.Core.Bool.{Bool, true, false}
 use mathlib.Core.List.{List}
 use lib.Dec.{eqb}
 use lib.ListN.{length}
-use Rattle.base.specs.If.{if◌then◌else◌}
 use Rattle.words.specs.declared.answers.Said.{Said}
 use Rattle.words.specs.declared.answers.Said.TheVariants as said
 use Rattle.program.specs.declared.state.Core.{Core}

@@ -1,6 +1,7 @@
 -- A text that was heard, in a line or in a packet: the pump and the books agree behind it. Another address is passed over, an alarm
 -- answered, SAF met by the link, any other command obeyed.
 -- Assumes nothing.
+use Rattle.std.specs.Prelude.{if◌then◌else◌}
 use Prim.Native.Nat.{ℕ, ◌+◌, ◌*◌, ◌≤◌}
 use mathlib.Core.Path.{◌≡◌, refl, sym, ap, ap₂, ◌∙◌, subst}
 use mathlib.Core.Logic.{◌⊎◌, inl, inr}
@@ -11,7 +12,6 @@ use lib.Dec.{eqb}
 use lib.ListN.{length, take, length-take}
 use lib.Seq.{ext_get_or, get_or-take}
 use borrow.Author.Tests.{eqb-true}
-use Rattle.base.specs.If.{if◌then◌else◌}
 use Rattle.base.specs.Text.{text}
 use Rattle.base.proofs.Choices.{and_false, false_true}
 use Rattle.drive.specs.declared.directions.Direction.{Direction}

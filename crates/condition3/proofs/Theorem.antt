@@ -5,6 +5,7 @@
 --     stored_as_booked   what the pump stores and no query shows is what the observer has in his books
 --     line_after         so the line holds the characters since the last return, up to 40, and is over-long where there are more
 -- Assumes nothing.
+use Rattle.std.specs.Prelude.{if◌then◌else◌}
 use Prim.Native.Nat.{ℕ, ◌+◌, ◌≤◌}
 use mathlib.Core.Path.{◌≡◌, refl, sym, ap, ◌∙◌, subst}
 use mathlib.Core.Bool.{Bool, false}
@@ -13,7 +14,6 @@ use native.Mathlib.Omega.{arith}
 use lib.ListN.{length-take}
 use lib.Dec.{eqb}
 use borrow.Author.Tests.{ne_eqb}
-use Rattle.base.specs.If.{if◌then◌else◌}
 use Rattle.base.specs.Text.{letter}
 use Rattle.base.proofs.Choices.{false_true}
 use Rattle.drive.specs.declared.directions.Direction.{Direction}

@@ -1,6 +1,7 @@
 -- The event of a tick that did its work, whatever that is, and no more: the link stays, and nothing is sent. What the observer reads off
 -- it; what is to be shown of any event; and ticks in which nothing is entered and no visit is worked. What the link adds is in Lapsing.
 -- Assumes nothing.
+use Rattle.std.specs.Prelude.{if◌then◌else◌}
 use Prim.Native.Nat.{ℕ, ◌+◌, ◌*◌, ◌≤◌}
 use mathlib.Core.Path.{◌≡◌, refl, sym, ap, ◌∙◌, subst}
 use mathlib.Core.Bool.{Bool, true, false, ◌&&◌, ◌||◌, or-false}
@@ -8,7 +9,6 @@ use mathlib.Core.List.{[]}
 use native.Mathlib.Omega.{arith}
 use lib.Dec.{eqb}
 use lib.ListN.{length, take}
-use Rattle.base.specs.If.{if◌then◌else◌}
 use Rattle.base.specs.Text.{text}
 use Rattle.base.proofs.Choices.{false_true}
 use Rattle.drive.specs.Syringe.{step_volume}

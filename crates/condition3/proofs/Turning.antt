@@ -1,11 +1,11 @@
 -- The program under way: RUN, STP, the foot switch and a setting leave it as it stands, or no visit is under way before and behind them,
 -- or the pump is stopped behind them.
 -- Assumes nothing.
+use Rattle.std.specs.Prelude.{if◌then◌else◌}
 use Prim.Native.Nat.{ℕ}
 use mathlib.Core.Path.{◌≡◌, refl, sym, ap, ◌∙◌, subst}
 use mathlib.Core.Bool.{Bool, true, false, not}
 use lib.ListN.{take}
-use Rattle.base.specs.If.{if◌then◌else◌}
 use Rattle.base.proofs.Choices.{false_true}
 use Rattle.loops.specs.Loops.{opened}
 use Rattle.dispense.specs.declared.rates.Rate.{Rate}

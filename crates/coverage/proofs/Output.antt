@@ -3,12 +3,12 @@
 --     lines_told_lem       and so is what lines print
 --     output_is_told   and the whole output of the program, from power-up
 -- Assumes nothing.
+use Rattle.std.specs.Prelude.{if◌then◌else◌}
 use Prim.Native.Nat.{ℕ}
 use mathlib.Core.Path.{◌≡◌, refl, sym, ap, ap₂, ◌∙◌}
 use mathlib.Core.Bool.{Bool, or-false}
 use mathlib.Core.List.{List, [], ◌∷◌, ◌++◌}
 use lib.ListN.{length, take, drop}
-use Rattle.base.specs.If.{if◌then◌else◌}
 use Rattle.pump.specs.Calls.{pin_call}
 use Rattle.pump.specs.Holder.{model_phases, fresh_pump}
 use Rattle.pump.specs.Reports.{is_refused}

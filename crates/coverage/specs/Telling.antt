@@ -1,8 +1,7 @@
 -- What is read off the events of a history alone: the steps that their reports tell, the lines that their answers are printed as, whether
 -- a call was refused; and, with the items of an input, all that is printed for it.   (01, Marked figures: the bench program; Calls;
 -- 02, 1/12)
-use Rattle.std.specs.Prelude.{ℕ, ◌+◌, Bool, false, ◌||◌, List, [], ◌∷◌, ◌++◌, length, take, drop}
-use Rattle.base.specs.If.{if◌then◌else◌}
+use Rattle.std.specs.Prelude.{ℕ, ◌+◌, Bool, false, ◌||◌, List, [], ◌∷◌, ◌++◌, length, take, drop, if◌then◌else◌}
 use Rattle.drive.specs.declared.directions.Direction.{Direction}
 use Rattle.drive.specs.declared.directions.Direction.TheVariants.{Infuse, Withdraw}
 use Rattle.pump.specs.Reports.{is_refused}

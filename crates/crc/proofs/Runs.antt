@@ -1,5 +1,6 @@
 -- A run of up to sixteen bits: the register can be told back from what it becomes, and no such run but the empty one leaves it 0.
 -- Assumes nothing.
+use Rattle.std.specs.Prelude.{if◌then◌else◌}
 use Prim.Native.Nat.{ℕ, zero, suc, ◌+◌, ◌-◌, ◌*◌, ◌/◌, ◌%◌, ◌^◌, ◌≤◌, ◌<◌}
 use mathlib.Core.Path.{◌≡◌, refl, sym, ap, ap₂, ◌∙◌}
 use mathlib.Core.Bool.{Bool, true, false, xor}
@@ -12,7 +13,6 @@ use lib.Pow.{pow-add}
 use lib.Arith.{mod-mul}
 use lib.ListN.{length}
 use Rattle.base.proofs.Choices.{false_true}
-use Rattle.base.specs.If.{if◌then◌else◌}
 use Rattle.crc.specs.Xor.{◌⊕◌}
 use Rattle.crc.specs.Check.{polynomial, bit, shifted, after}
 use Rattle.crc.specs.Noise.{turned}

@@ -1,7 +1,6 @@
 -- The check of a packet: the 16-bit CCITT one, polynomial 0x1021, from 0, the most significant bit first.   (02, 2/12)
-use Rattle.std.specs.Prelude.{ℕ, zero, suc, ◌*◌, ◌/◌, ◌%◌, ◌^◌, Bool, List, [], ◌∷◌, ◌++◌, eqb}
+use Rattle.std.specs.Prelude.{ℕ, zero, suc, ◌*◌, ◌/◌, ◌%◌, ◌^◌, Bool, List, [], ◌∷◌, ◌++◌, eqb, if◌then◌else◌}
 use Rattle.std.specs.Bool.{xor}
-use Rattle.base.specs.If.{if◌then◌else◌}
 use Rattle.crc.specs.Xor.{◌⊕◌}
 
 -- x^16 + x^12 + x^5 + 1, without its first term

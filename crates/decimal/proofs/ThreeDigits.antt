@@ -1,5 +1,6 @@
 -- One to three digits from the left: what `read_three` has found when it stands at the byte `i`, what `read_three` is where it stops,
 -- and how large a reading is.
+use Rattle.std.specs.Prelude.{if◌then◌else◌}
 use Prim.Native.Nat.{ℕ, ◌+◌, ◌-◌, ◌*◌, ◌^◌, ◌≤◌, ◌<◌}
 use mathlib.Core.Path.{◌≡◌, refl, sym, ap, ◌∙◌}
 use mathlib.Core.Bool.{Bool, true, false, ◌&&◌, and-false}
@@ -8,12 +9,10 @@ use native.Mathlib.Nat.{pow-suc, pow-le-pow_right, lt_of_lt_of_le}
 use native.Mathlib.Numerals.{add-one}
 use native.Mathlib.Omega.{arith}
 use borrow.Author.Tests.{le-leb, lt-leb}
-use lib.Dec.{lit<, leb}
+use lib.Dec.{lit<}
 use lib.ListN.{length, get_or, drop, drop_of_length-le}
 use lib.Seq.{drop-cons}
-use Rattle.base.specs.If.{if◌then◌else◌}
 use Rattle.base.proofs.Choices.{and_left, and_right}
-use Rattle.decimal.specs.declared.short.Three.{Three}
 use Rattle.decimal.specs.declared.short.Three.TheVariants.{Number, NoNumber}
 use Rattle.decimal.specs.Read.{is_digit, number_from}
 use Rattle.decimal.specs.Short.{all_digits, read_three}

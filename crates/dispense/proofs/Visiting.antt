@@ -1,5 +1,6 @@
 -- What follows from a visit's rules: at most four steps a tick and never past the target; the store stays below the threshold.
 -- Assumes nothing.
+use Rattle.std.specs.Prelude.{if◌then◌else◌}
 use Prim.Native.Nat.{ℕ, ◌+◌, ◌-◌, ◌/◌, ◌≤◌, ◌<◌, min}
 use mathlib.Core.Path.{◌≡◌}
 use mathlib.Core.Bool.{Bool, true, false}
@@ -7,7 +8,6 @@ use native.Mathlib.Nat.{div-lt_iff_lt-mul, mod-lt}
 use native.Mathlib.Omega.{arith}
 use lib.Dec.{eqb}
 use borrow.Author.Tests.{ne_eqb}
-use Rattle.base.specs.If.{if◌then◌else◌}
 use Rattle.dispense.specs.Visits.{Working, due_of, store_of, steps_of}
 use Rattle.dispense.specs.declared.visits.Visit.{Visit}
 

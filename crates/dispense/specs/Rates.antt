@@ -1,6 +1,5 @@
 -- The current rate.   (01, Ticks and phases, RAT, INC, DEC; Calls)
-use Rattle.std.specs.Prelude.{ℕ, ◌+◌, ◌-◌, Bool, true, false, leb}
-use Rattle.base.specs.If.{if◌then◌else◌}
+use Rattle.std.specs.Prelude.{ℕ, ◌+◌, ◌-◌, Bool, true, false, leb, if◌then◌else◌}
 use Rattle.drive.specs.Rates.{is_usable, most_rate}
 use Rattle.drive.specs.declared.syringe.Syringe.{Syringe}
 use Rattle.dispense.specs.declared.rates.Rate.{Rate}

@@ -1,6 +1,5 @@
 -- A rate visit's working tick.   (01, Ticks and phases, RAT)
-use Rattle.std.specs.Prelude.{ℕ, ◌+◌, ◌-◌, ◌*◌, ◌/◌, ◌%◌, ◌≤◌, ◌<◌, min, Bool, ◌&&◌, ltb, leb, eqb}
-use Rattle.base.specs.If.{if◌then◌else◌}
+use Rattle.std.specs.Prelude.{ℕ, ◌+◌, ◌-◌, ◌*◌, ◌/◌, ◌%◌, ◌≤◌, ◌<◌, min, Bool, ◌&&◌, ltb, leb, eqb, if◌then◌else◌}
 use Rattle.drive.specs.Syringe.{most_threshold}
 use Rattle.dispense.specs.declared.visits.Visit.{Visit}
 use Rattle.dispense.specs.declared.visits.Worked.{Worked}

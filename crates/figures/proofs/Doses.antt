@@ -1,6 +1,7 @@
 -- Figures f, h and i: the tick in which the visit ends, and that no other follows, however many more ticks go by: behind the visit one tick
 -- stops the pump, and the ticks of a stopped pump leave the visits in the observer's books as they are.
 -- Assumes nothing.
+use Rattle.std.specs.Prelude.{if◌then◌else◌}
 use Prim.Native.Nat.{ℕ, zero, suc, ◌+◌, ◌-◌}
 use Prim.Native.Char.{Char}
 use Prim.Native.String.{String}
@@ -10,7 +11,6 @@ use mathlib.Core.List.{List, [], ◌∷◌, ◌++◌, append_assoc}
 use native.Mathlib.Nat.{add-zero}
 use native.Mathlib.Omega.{arith}
 use lib.ListN.{length}
-use Rattle.base.specs.If.{if◌then◌else◌}
 use Rattle.program.specs.declared.state.Mode.{Mode}
 use Rattle.program.specs.declared.state.Mode.TheVariants.{Stopped}
 use Rattle.program.specs.declared.state.Pending.TheVariants.{NoAlarm}

@@ -1,8 +1,7 @@
 -- What a row of the marked figures says, and what is observed for it: from power-up, through the calls alone.   (01, Marked figures)
-use Rattle.std.specs.Prelude.{ℕ, ◌+◌, ◌-◌, ◌≡◌, Bool, true, false, ◌&&◌, List, [], ◌∷◌, ◌++◌, eqb, length, take}
+use Rattle.std.specs.Prelude.{ℕ, ◌+◌, ◌-◌, ◌≡◌, Bool, true, false, ◌&&◌, List, [], ◌∷◌, ◌++◌, eqb, length, take, if◌then◌else◌}
 use Prim.Native.Char.{Char}
 use Prim.Native.String.{String}
-use Rattle.base.specs.If.{if◌then◌else◌}
 use Rattle.base.specs.Text.{letter, text}
 use Rattle.decimal.specs.Print.{print}
 use Rattle.program.specs.Runs.{is_operating, is_entering}

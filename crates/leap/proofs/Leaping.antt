@@ -1,5 +1,6 @@
 -- A leap of a visit is that many ticks one after the other.
 -- Assumes nothing.
+use Rattle.std.specs.Prelude.{if◌then◌else◌}
 use Prim.Native.Nat.{ℕ, zero, suc, ◌+◌, ◌*◌, ◌≤◌}
 use mathlib.Core.Path.{◌≡◌, refl, sym, ap, ◌∙◌, subst}
 use mathlib.Core.Bool.{Bool, true, false, ◌&&◌}
@@ -8,7 +9,6 @@ use native.Mathlib.Numerals.{add-one}
 use native.Mathlib.Omega.{arith}
 use lib.Dec.{leb}
 use borrow.Author.Tests.{leb-true, le-leb}
-use Rattle.base.specs.If.{if◌then◌else◌}
 use Rattle.drive.specs.Rates.{hourly_rate}
 use Rattle.drive.specs.Syringe.{step_volume, step_threshold}
 use Rattle.drive.specs.declared.directions.Direction.{Direction}

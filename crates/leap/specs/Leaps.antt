@@ -1,6 +1,5 @@
 -- Many ticks, one after the other, and what a leap over some of them promises.   (02, 1/12; 01, Ticks and phases)
-use Rattle.std.specs.Prelude.{ℕ, zero, suc, ◌+◌, ◌*◌, ◌≤◌, ◌≡◌}
-use Rattle.base.specs.If.{if◌then◌else◌}
+use Rattle.std.specs.Prelude.{ℕ, zero, suc, ◌+◌, ◌*◌, ◌≤◌, ◌≡◌, if◌then◌else◌}
 use Rattle.words.specs.declared.functions.Function.{Function}
 use Rattle.words.specs.declared.phases.Phase.{Phase}
 use Rattle.program.specs.Cores.{with_run}

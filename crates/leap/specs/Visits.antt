@@ -1,6 +1,5 @@
 -- Many working ticks of a visit at once.   (01, Ticks and phases, RAT; Volumes: the limit of a total)
-use Rattle.std.specs.Prelude.{ℕ, ◌+◌, ◌*◌, Bool, ◌&&◌, ◌||◌, ltb, leb, eqb}
-use Rattle.base.specs.If.{if◌then◌else◌}
+use Rattle.std.specs.Prelude.{ℕ, ◌+◌, ◌*◌, Bool, ◌&&◌, ◌||◌, ltb, leb, eqb, if◌then◌else◌}
 use Rattle.drive.specs.Rates.{hourly_rate}
 use Rattle.drive.specs.Syringe.{step_volume, step_threshold}
 use Rattle.drive.specs.declared.directions.Direction.{Direction}

@@ -1,12 +1,12 @@
 -- The address in front of a text, by its first two letters.
 -- Assumes nothing.
+use Rattle.std.specs.Prelude.{if◌then◌else◌}
 use Prim.Native.Nat.{ℕ, ◌≤◌}
 use mathlib.Core.Path.{◌≡◌, refl, sym, ap, ◌∙◌}
 use mathlib.Core.Bool.{Bool, true, false}
 use mathlib.Core.List.{List, [], ◌∷◌}
 use native.Mathlib.Omega.{arith}
 use lib.ListN.{length, get_or, take}
-use Rattle.base.specs.If.{if◌then◌else◌}
 use Rattle.decimal.specs.Read.{is_digit, number_from}
 use Rattle.decimal.specs.Short.{read_one, read_two, joined}
 use Rattle.decimal.specs.declared.short.Short.{Short}

@@ -1,5 +1,6 @@
 -- The functions' names by their letters; and that a name which leads a text is the one that is called, so that no two compete.
 -- Assumes nothing.
+use Rattle.std.specs.Prelude.{if◌then◌else◌}
 use Prim.Native.Nat.{ℕ, ◌≤◌}
 use mathlib.Core.Path.{◌≡◌, refl, sym, ap, subst, ◌∙◌}
 use mathlib.Core.Bool.{Bool, true, false}
@@ -7,7 +8,6 @@ use mathlib.Core.List.{List, [], ◌∷◌}
 use native.Mathlib.Omega.{arith}
 use lib.ListN.{length, get_or, take}
 use borrow.Author.Tests.{ne_eqb}
-use Rattle.base.specs.If.{if◌then◌else◌}
 use Rattle.base.specs.Text.{text, letter}
 use Rattle.base.proofs.Choices.{and_false}
 use Rattle.words.specs.Spelling.{function_name}

@@ -3,6 +3,7 @@
 --     direction_back    a direction's name sets that direction
 --     function_back     a function's name, and its datum as answers print it, set that function
 -- Assumes nothing.
+use Rattle.std.specs.Prelude.{if◌then◌else◌}
 use Prim.Native.Nat.{ℕ, ◌-◌, ◌≤◌}
 use mathlib.Core.Path.{◌≡◌, refl, ap, ◌∙◌}
 use mathlib.Core.Bool.{Bool, true, false, ◌&&◌}
@@ -13,7 +14,6 @@ use lib.Dec.{leb, eqb}
 use lib.ListN.{length, take, drop, length-append}
 use lib.Seq.{take_at, drop-append_seam}
 use borrow.Author.Tests.{leb-true}
-use Rattle.base.specs.If.{if◌then◌else◌}
 use Rattle.base.proofs.Choices.{and_right}
 use Rattle.decimal.specs.Read.{read}
 use Rattle.decimal.specs.Short.{read_one, read_two, read_tenths}

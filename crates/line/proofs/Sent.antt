@@ -1,5 +1,6 @@
 -- Every command that a text asks for is one that can be sent: what the readers give is writable, or has two digits at the most.
 -- Assumes nothing.
+use Rattle.std.specs.Prelude.{if◌then◌else◌}
 use Prim.Native.Nat.{ℕ, ◌≤◌}
 use mathlib.Core.Path.{◌≡◌, refl, ap, ◌∙◌}
 use mathlib.Core.Bool.{Bool, true, false}
@@ -7,7 +8,6 @@ use mathlib.Core.List.{List}
 use native.Mathlib.Omega.{arith}
 use lib.Dec.{eqb}
 use lib.ListN.{length, drop}
-use Rattle.base.specs.If.{if◌then◌else◌}
 use Rattle.decimal.specs.Read.{read}
 use Rattle.decimal.specs.Short.{read_one, read_two, read_tenths}
 use Rattle.decimal.specs.Writable.{is_writable}

@@ -10,6 +10,7 @@
 -- That a name which leads a text is its name stands in Naming (name-is) and Calling (called-is), that what is printed reads back
 -- in ReadBack.
 -- Assumes nothing.
+use Rattle.std.specs.Prelude.{if◌then◌else◌}
 use Prim.Native.Nat.{ℕ, ◌+◌, ◌-◌, ◌≤◌, ◌<◌, min}
 use mathlib.Core.Path.{◌≡◌, refl, sym, ap, subst, ◌∙◌}
 use mathlib.Core.Bool.{Bool, true, false, ◌&&◌, ◌||◌, not}
@@ -20,7 +21,6 @@ use lib.Dec.{leb, ltb}
 use lib.ListN.{length, take, set, length-append, length-set}
 use lib.Seq.{take_all, take-append-le, take-suc-set}
 use borrow.Author.Tests.{lt-ltb, le-ltb, ltb-true, ltb-false, le-leb, leb-true}
-use Rattle.base.specs.If.{if◌then◌else◌}
 use Rattle.base.proofs.Choices.{and_left, and_right}
 use Rattle.line.specs.Characters.{is_return, is_dropped, is_lower, raised, arrival_of, can_stand}
 use Rattle.line.specs.Lines.{empty_line, with_character, after_arrival, after_byte, line_text}

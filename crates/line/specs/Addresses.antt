@@ -1,6 +1,5 @@
 -- The address in front of a text.   (01, Line and answer)
-use Rattle.std.specs.Prelude.{ℕ, List, [], ◌∷◌, take, drop}
-use Rattle.base.specs.If.{if◌then◌else◌}
+use Rattle.std.specs.Prelude.{ℕ, List, [], ◌∷◌, take, drop, if◌then◌else◌}
 use Rattle.decimal.specs.Read.{is_digit, number_from}
 
 -- up to two leading digits

@@ -1,7 +1,6 @@
 -- What an argument asks for. No argument is a query; a number, a phase or a direction is a setting; anything else is malformed.
 -- A number may be out of range here: that is judged later.   (01, Commands)
-use Rattle.std.specs.Prelude.{ℕ, ◌-◌, List, [], ◌∷◌, eqb, length, take, drop}
-use Rattle.base.specs.If.{if◌then◌else◌}
+use Rattle.std.specs.Prelude.{ℕ, ◌-◌, List, [], ◌∷◌, eqb, length, take, drop, if◌then◌else◌}
 use Rattle.base.specs.Text.{text}
 use Rattle.decimal.specs.Read.{read}
 use Rattle.decimal.specs.Short.{read_two}

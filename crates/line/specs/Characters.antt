@@ -1,6 +1,5 @@
 -- What one byte does to a line, and which characters a line can hold.   (01, Line and answer)
-use Rattle.std.specs.Prelude.{ℕ, ◌-◌, Bool, ◌&&◌, ◌||◌, not, leb, eqb}
-use Rattle.base.specs.If.{if◌then◌else◌}
+use Rattle.std.specs.Prelude.{ℕ, ◌-◌, Bool, ◌&&◌, ◌||◌, not, leb, eqb, if◌then◌else◌}
 use Rattle.line.specs.declared.arriving.Arrival.{Arrival}
 use Rattle.line.specs.declared.arriving.Arrival.TheVariants.{End, Dropped, Kept}
 

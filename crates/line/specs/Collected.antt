@@ -1,6 +1,5 @@
 -- A line that is collected byte by byte, and what it should then hold, said of the bytes alone.   (01, Line and answer)
-use Rattle.std.specs.Prelude.{ℕ, ◌≡◌, ◌||◌, List, [], ◌∷◌, ltb, length, take}
-use Rattle.base.specs.If.{if◌then◌else◌}
+use Rattle.std.specs.Prelude.{ℕ, ◌≡◌, ◌||◌, List, [], ◌∷◌, ltb, length, take, if◌then◌else◌}
 use Rattle.line.specs.Characters.{is_return, is_dropped, raised}
 use Rattle.line.specs.Lines.{after_byte, line_text}
 use Rattle.line.specs.declared.lines.Line.{Line}

@@ -1,6 +1,5 @@
 -- The command that a text asks for.   (01, Line and answer; Commands)
-use Rattle.std.specs.Prelude.{ℕ, List, eqb, length}
-use Rattle.base.specs.If.{if◌then◌else◌}
+use Rattle.std.specs.Prelude.{ℕ, List, eqb, length, if◌then◌else◌}
 use Rattle.line.specs.Names.{name_of, argument_of}
 use Rattle.line.specs.Arguments.{diameter_asked, rate_asked, volume_asked, direction_asked, phase_asked, run_asked, clear_asked, unless_more}
 use Rattle.line.specs.Functions.{function_asked}

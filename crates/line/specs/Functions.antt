@@ -1,7 +1,6 @@
 -- What stands behind FUN: a function's name, and a datum of the kind that the function takes. A missing or a needless datum is
 -- malformed; one out of range is judged later.   (01, Commands, FUN; Numbers)
-use Rattle.std.specs.Prelude.{ℕ, List, [], ◌∷◌, eqb, length, drop}
-use Rattle.base.specs.If.{if◌then◌else◌}
+use Rattle.std.specs.Prelude.{ℕ, List, [], ◌∷◌, eqb, length, drop, if◌then◌else◌}
 use Rattle.decimal.specs.Short.{read_one, read_two, read_tenths}
 use Rattle.decimal.specs.declared.short.Short.{Short}
 use Rattle.decimal.specs.declared.short.Short.TheVariants.{Digits, NoDigits}

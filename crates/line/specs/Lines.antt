@@ -1,7 +1,6 @@
 -- The line under way: how characters are collected, which lines a sound pump may hold, whose address a line bears and what it asks
 -- for.   (01, Line and answer; Calls)
-use Rattle.std.specs.Prelude.{ℕ, ◌+◌, Bool, true, false, ◌&&◌, ◌||◌, not, List, [], ◌∷◌, leb, ltb, take, set, replicate}
-use Rattle.base.specs.If.{if◌then◌else◌}
+use Rattle.std.specs.Prelude.{ℕ, ◌+◌, Bool, true, false, ◌&&◌, ◌||◌, not, List, [], ◌∷◌, leb, ltb, take, set, replicate, if◌then◌else◌}
 use Rattle.line.specs.Characters.{arrival_of, can_stand}
 use Rattle.line.specs.Addresses.{address_of, unaddressed}
 use Rattle.line.specs.Commands.{command_of}

@@ -1,6 +1,5 @@
 -- The commands' names, and the argument behind them.   (01, Line and answer; Commands)
-use Rattle.std.specs.Prelude.{ℕ, List, [], ◌∷◌, length, drop}
-use Rattle.base.specs.If.{if◌then◌else◌}
+use Rattle.std.specs.Prelude.{ℕ, List, [], ◌∷◌, length, drop, if◌then◌else◌}
 use Rattle.base.specs.Text.{text}
 use Rattle.line.specs.Spelling.{leads}
 use Rattle.line.specs.declared.names.Name.{Name}

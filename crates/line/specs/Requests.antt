@@ -1,7 +1,6 @@
 -- What a text asks for, and whose address it bears. SAF is asked of the link that the text came by, everything else of the pump.
 -- (02, 2/12)
-use Rattle.std.specs.Prelude.{ℕ, List, eqb, length, drop}
-use Rattle.base.specs.If.{if◌then◌else◌}
+use Rattle.std.specs.Prelude.{ℕ, List, eqb, length, drop, if◌then◌else◌}
 use Rattle.base.specs.Text.{text}
 use Rattle.decimal.specs.Short.{read_three}
 use Rattle.decimal.specs.declared.short.Three.{Three}

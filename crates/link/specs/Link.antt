@@ -1,7 +1,6 @@
 -- The mode: Basic, where lines are taken, or Safe, where packets are, with a time limit, its timer and the packet under way. What one
 -- byte and one tick make of it, and which links are sound.   (02, 2/12)
-use Rattle.std.specs.Prelude.{ℕ, zero, suc, ◌-◌, ◌*◌, Bool, true, false, ◌&&◌, List, leb, eqb, replicate}
-use Rattle.base.specs.If.{if◌then◌else◌}
+use Rattle.std.specs.Prelude.{ℕ, zero, suc, ◌-◌, ◌*◌, Bool, true, false, ◌&&◌, List, leb, eqb, replicate, if◌then◌else◌}
 use Rattle.packet.specs.Receiver.{outside_receiver, after_byte, tick, sound_receiver}
 use Rattle.packet.specs.declared.receiver.Place.{Place}
 use Rattle.packet.specs.declared.receiver.Receiver.{Receiver}

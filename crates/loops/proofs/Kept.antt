@@ -1,5 +1,6 @@
 -- LPS, LOP and LPE keep sound loops sound, and the phase that follows is one of the program's or the one behind its last.
 -- Assumes nothing.
+use Rattle.std.specs.Prelude.{if◌then◌else◌}
 use Prim.Native.Nat.{ℕ, ◌+◌, ◌≤◌, ◌<◌}
 use mathlib.Core.Path.{◌≡◌, refl, sym, ap, subst, ◌∙◌}
 use mathlib.Core.Bool.{Bool, true, false, ◌&&◌, not}
@@ -8,7 +9,6 @@ use native.Mathlib.Omega.{arith}
 use lib.Dec.{leb, eqb}
 use lib.ListN.{length, length-append}
 use borrow.Author.Tests.{leb-false, le-leb, eqb-true, eqb-false, eq-eqb, ne_eqb}
-use Rattle.base.specs.If.{if◌then◌else◌}
 use Rattle.base.proofs.Choices.{and_left, and_right, false_true}
 use Rattle.base.proofs.Each.{and_both}
 use Rattle.loops.specs.Loops.{opened, in_slots, before, lps, newest, older, lop, lpe, Turning}

@@ -1,5 +1,6 @@
 -- The three places and the list of open loops that they hold: what the code reads off the places is what the rules say of the list.
 -- Assumes nothing.
+use Rattle.std.specs.Prelude.{if◌then◌else◌}
 use Prim.Native.Nat.{ℕ, zero, suc, ◌+◌, ◌≤◌, ◌<◌}
 use mathlib.Core.Path.{◌≡◌, refl, sym, ap, ◌∙◌}
 use mathlib.Core.Bool.{Bool, true, false, ◌&&◌, ◌||◌, not}
@@ -10,7 +11,6 @@ use lib.ListN.{length, take, replicate, get_or, length-take}
 use lib.Seq.{take-take, take-append_seam}
 use borrow.Author.Tests.{lt-ltb, le-ltb, lt-leb}
 use Rattle.base.specs.All.{all}
-use Rattle.base.specs.If.{if◌then◌else◌}
 use Rattle.loops.specs.Loops.{no_loop, none, opened, in_slots, before, newest, older}
 use Rattle.loops.specs.Loops.{is_sound_loop, all_sound, none_begun_by, all_differ, is_sound_loops}
 use Rattle.loops.specs.declared.Loop.{Loop}

@@ -1,7 +1,6 @@
 -- The open loops, as a list with the oldest first: LPS, LOP and LPE, each whole, and when the loops are sound.
 -- (01, Ticks and phases, LPS, LOP, LPE; Calls)
-use Rattle.std.specs.Prelude.{ℕ, ◌+◌, ◌≤◌, Bool, true, false, ◌&&◌, not, List, [], ◌∷◌, ◌++◌, leb, eqb, length, take, replicate}
-use Rattle.base.specs.If.{if◌then◌else◌}
+use Rattle.std.specs.Prelude.{ℕ, ◌+◌, ◌≤◌, Bool, true, false, ◌&&◌, not, List, [], ◌∷◌, ◌++◌, leb, eqb, length, take, replicate, if◌then◌else◌}
 use Rattle.loops.specs.declared.Loop.{Loop}
 use Rattle.loops.specs.declared.Loops.{Loops}
 use Rattle.loops.specs.declared.Began.{Began}

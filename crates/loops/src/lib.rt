@@ -2,8 +2,7 @@
 // phases. The crate knows a phase by its number alone.
 #![tactic(auto)]
 
-ghost use Rattle.std.specs.Prelude.{◌≡◌, [], ◌∷◌, ◌++◌, ◌<◌, length, take};
-ghost use Rattle.base.specs.If.{if◌then◌else◌};
+ghost use Rattle.std.specs.Prelude.{◌≡◌, [], ◌∷◌, ◌++◌, ◌<◌, length, take, if◌then◌else◌};
 ghost use Rattle.loops.specs.Loops.{none, lps, Turning, lop, lpe, is_sound_loops, opened, in_slots, before, newest, older};
 
 #[derive(Clone, Copy)]

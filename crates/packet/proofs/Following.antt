@@ -1,5 +1,6 @@
 -- The receiver follows the stream: one byte more, by what it holds, tells and leads where the stream's meaning says.
 -- Assumes nothing.
+use Rattle.std.specs.Prelude.{if◌then◌else◌}
 use Prim.Native.Nat.{ℕ, ◌+◌, ◌-◌, ◌≤◌, ◌<◌}
 use mathlib.Core.Path.{◌≡◌, refl, sym, ap, ap₂, subst, ◌∙◌}
 use mathlib.Core.Bool.{Bool, true, false}
@@ -10,7 +11,6 @@ use lib.Dec.{eqb}
 use lib.ListN.{length, take, set, replicate, length-take, length-set, length-append}
 use lib.Seq.{take-suc-set, length-take-le}
 use borrow.Author.Tests.{lt-ltb, le-leb, ltb-true, leb-true, eqb-true}
-use Rattle.base.specs.If.{if◌then◌else◌}
 use Rattle.base.proofs.Choices.{false_true}
 use Rattle.packet.specs.Packets.{stx, etx, check_bytes, Heard, nothing, wrong, good, is_length, is_check, ending, judged}
 use Rattle.packet.specs.Streams.{Standing, outside, behind, goes_on, told, next, reading, ended}

@@ -1,5 +1,6 @@
 -- A stream that tells of a good packet holds that packet, and its last byte is where it is told.
 -- Assumes nothing.
+use Rattle.std.specs.Prelude.{if◌then◌else◌}
 use Prim.Native.Nat.{ℕ, ◌≤◌}
 use mathlib.Core.Path.{◌≡◌, refl, sym, ap, ◌∙◌}
 use mathlib.Core.Logic.{inl, inr}
@@ -8,7 +9,6 @@ use mathlib.Core.List.{List, [], ◌∷◌, ◌++◌, append_assoc, append-nil}
 use lib.Dec.{eqb}
 use lib.ListN.{length}
 use borrow.Author.Tests.{eqb-true}
-use Rattle.base.specs.If.{if◌then◌else◌}
 use Rattle.packet.specs.Packets.{stx, packet_of, Heard, nothing, wrong, good, judged}
 use Rattle.packet.specs.Streams.{Standing, outside, behind, goes_on, told, next, reading, ended, Among, HoldsPacket}
 use Rattle.packet.proofs.Judging.{nothing_good, good_packet_only}

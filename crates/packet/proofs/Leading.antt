@@ -1,5 +1,6 @@
 -- Where parts of a packet lead, and parts one behind the other.
 -- Assumes nothing.
+use Rattle.std.specs.Prelude.{if◌then◌else◌}
 use Prim.Native.Nat.{ℕ, ◌+◌, ◌-◌, ◌≤◌}
 use mathlib.Core.Path.{◌≡◌, refl, sym, ap, ap₂, ◌∙◌}
 use mathlib.Core.Bool.{true, false}
@@ -8,7 +9,6 @@ use native.Mathlib.Omega.{arith}
 use lib.Dec.{eqb}
 use lib.ListN.{length, replicate, length-append, replicate-append-replicate}
 use borrow.Author.Tests.{ne_eqb}
-use Rattle.base.specs.If.{if◌then◌else◌}
 use Rattle.packet.specs.Packets.{stx, etx, check_bytes, packet_of, Heard, nothing, wrong, good, is_length, is_check, ending, judged}
 use Rattle.packet.specs.Streams.{Standing, outside, behind, goes_on, told, next, reading, ended, Leads}
 use Rattle.packet.proofs.Judging.{in_range, out_of_range, filling, at_end_lem, check_right}

@@ -1,5 +1,6 @@
 -- Ticks with no byte keep a receiver sound, add up, and count from the last byte.
 -- Assumes nothing.
+use Rattle.std.specs.Prelude.{if◌then◌else◌}
 use Prim.Native.Nat.{ℕ, zero, suc, ◌+◌, ◌-◌, ◌≤◌, ◌<◌}
 use mathlib.Core.Path.{◌≡◌, refl, sym, ap, subst, ◌∙◌}
 use mathlib.Core.Bool.{Bool, true, false}
@@ -9,7 +10,6 @@ use native.Mathlib.Omega.{arith}
 use lib.Dec.{ltb, eqb}
 use lib.ListN.{take, set, replicate}
 use borrow.Author.Tests.{ltb-true, ltb-false, leb-true, lt-ltb, le-leb}
-use Rattle.base.specs.If.{if◌then◌else◌}
 use Rattle.base.proofs.Each.{and_both}
 use Rattle.packet.specs.Packets.{stx, etx, is_length, is_check}
 use Rattle.packet.specs.Receiver.{outside_receiver, waiting, going_on, wrong_now, length_taken, data_taken, low_taken, end_taken}

@@ -1,6 +1,5 @@
 -- The receiver's struct: one byte more, a tick with no byte, and which states it can be in.   (02, 2/12)
-use Rattle.std.specs.Prelude.{ℕ, zero, suc, ◌+◌, ◌-◌, Bool, true, ◌&&◌, List, leb, ltb, eqb, take, set, replicate}
-use Rattle.base.specs.If.{if◌then◌else◌}
+use Rattle.std.specs.Prelude.{ℕ, zero, suc, ◌+◌, ◌-◌, Bool, true, ◌&&◌, List, leb, ltb, eqb, take, set, replicate, if◌then◌else◌}
 use Rattle.packet.specs.Packets.{stx, etx, is_length, is_check}
 use Rattle.packet.specs.declared.receiver.Stage.{Stage}
 use Rattle.packet.specs.declared.receiver.Stage.TheVariants.{Length, Data, High, Low, End}

@@ -1,5 +1,6 @@
 -- What each act does to the rig and prints, by what was called and tested.
 -- Assumes nothing.
+use Rattle.std.specs.Prelude.{if◌then◌else◌}
 use Prim.Native.Nat.{ℕ, ◌+◌, ◌≤◌}
 use mathlib.Core.Path.{◌≡◌, refl, sym, ap, ◌∙◌}
 use mathlib.Core.Bool.{Bool, true, false, ◌||◌, or-true}
@@ -8,7 +9,6 @@ use native.Mathlib.Omega.{arith}
 use lib.Dec.{eqb, ltb}
 use lib.ListN.{length}
 use borrow.Author.Tests.{lt-ltb, le-ltb}
-use Rattle.base.specs.If.{if◌then◌else◌}
 use Rattle.base.proofs.Writing.{wrote_then}
 use Rattle.pump.specs.Calls.{byte_report, byte_buffer, pin_call}
 use Rattle.pump.specs.declared.holder.Pump.{Pump}

@@ -1,12 +1,12 @@
 -- The answer to a byte: none, or one with STX and ETX, a line or a packet, that the buffer holds.
 -- Assumes nothing.
+use Rattle.std.specs.Prelude.{if◌then◌else◌}
 use Prim.Native.Nat.{ℕ, ◌≤◌}
 use mathlib.Core.Path.{◌≡◌, refl}
 use mathlib.Core.Logic.{◌⊎◌, inl, inr, ⊎_elim}
 use mathlib.Core.Bool.{Bool, true, false}
 use native.Mathlib.Omega.{arith}
 use lib.ListN.{length}
-use Rattle.base.specs.If.{if◌then◌else◌}
 use Rattle.answer.specs.Answers.{answer_of, length_in}
 use Rattle.answer.specs.declared.frame.Frame.{Frame}
 use Rattle.answer.proofs.Lengths.{alarm_around, answer_around}

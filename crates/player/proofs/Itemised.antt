@@ -1,6 +1,7 @@
 -- The table over bytes says just what the lines and their items say: what the program prints for an input is `script_of` of it, and the
 -- pump that it leaves is the one behind the lines.
 -- Assumes nothing.
+use Rattle.std.specs.Prelude.{if◌then◌else◌}
 use Prim.Native.Nat.{ℕ, zero, suc, ◌≤◌}
 use mathlib.Core.Path.{◌≡◌, refl, sym, ap, ◌∙◌}
 use mathlib.Core.Bool.{Bool, true, false}
@@ -8,7 +9,6 @@ use mathlib.Core.List.{List, [], ◌∷◌, ◌++◌, append-nil}
 use native.Mathlib.Omega.{arith}
 use lib.Dec.{eqb}
 use lib.ListN.{length}
-use Rattle.base.specs.If.{if◌then◌else◌}
 use Rattle.base.specs.Text.{letter}
 use Rattle.pump.specs.Holder.{model_phases, fresh_pump}
 use Rattle.pump.specs.declared.holder.Pump.{Pump}

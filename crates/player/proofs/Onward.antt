@@ -1,13 +1,13 @@
 -- What an input prints from a place of a line on, its end included, and the rig that it leaves: within a line that is no text nothing
 -- is done, and at its end what its parts ask for.
 -- Assumes nothing.
+use Rattle.std.specs.Prelude.{if◌then◌else◌}
 use Prim.Native.Nat.{ℕ, ◌+◌, ◌*◌, ◌-◌}
 use mathlib.Core.Path.{◌≡◌, refl, sym, ap, ◌∙◌}
 use mathlib.Core.Logic.{inl}
 use mathlib.Core.Bool.{Bool, true, false}
 use mathlib.Core.List.{List, [], ◌∷◌, ◌++◌, append_assoc, append-nil}
 use lib.Dec.{eqb}
-use Rattle.base.specs.If.{if◌then◌else◌}
 use Rattle.base.specs.Text.{letter}
 use Rattle.base.proofs.Choices.{false_true}
 use Rattle.decimal.specs.Read.{is_digit}

@@ -1,7 +1,6 @@
 -- What the items of a script do to the pump and print: all that the program prints for an input.   (01, Marked figures: the bench
 -- program; docs/DECISIONS.md, 29 to 31)
-use Rattle.std.specs.Prelude.{ℕ, List, [], ◌∷◌, ◌++◌}
-use Rattle.base.specs.If.{if◌then◌else◌}
+use Rattle.std.specs.Prelude.{ℕ, List, [], ◌∷◌, ◌++◌, if◌then◌else◌}
 use Rattle.pump.specs.Calls.{pin_call}
 use Rattle.pump.specs.Holder.{model_phases, fresh_pump}
 use Rattle.pump.specs.Reports.{is_refused}

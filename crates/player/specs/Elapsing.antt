@@ -1,7 +1,6 @@
 -- Time that passes: so many ticks, by calls of at most a million, and what they report.   (02, 1/12 and 2/12; 01, Marked figures: the
 -- bench program)
-use Rattle.std.specs.Prelude.{ℕ, zero, suc, ◌+◌, ◌-◌, ◌≤◌, min, ◌≡◌, false, ◌||◌, List, [], ◌∷◌, eqb, ltb, replicate}
-use Rattle.base.specs.If.{if◌then◌else◌}
+use Rattle.std.specs.Prelude.{ℕ, zero, suc, ◌+◌, ◌-◌, ◌≤◌, min, ◌≡◌, false, ◌||◌, List, [], ◌∷◌, eqb, ltb, replicate, if◌then◌else◌}
 use Rattle.pump.specs.Calls.{ticks_call}
 use Rattle.pump.specs.Reports.{is_refused}
 use Rattle.pump.specs.declared.holder.Pump.{Pump}

@@ -1,6 +1,5 @@
 -- What is printed, a line at a time.   (01, Marked figures: the bench program)
-use Rattle.std.specs.Prelude.{ℕ, zero, suc, ◌+◌, ◌/◌, ◌%◌, ◌-◌, ◌≤◌, List, [], ◌∷◌, ◌++◌, ltb, take, drop}
-use Rattle.base.specs.If.{if◌then◌else◌}
+use Rattle.std.specs.Prelude.{ℕ, zero, suc, ◌+◌, ◌/◌, ◌%◌, ◌-◌, ◌≤◌, List, [], ◌∷◌, ◌++◌, ltb, take, drop, if◌then◌else◌}
 use Rattle.base.specs.Text.{text}
 use Rattle.base.specs.Wrote.{Wrote}
 

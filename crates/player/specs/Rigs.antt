@@ -1,6 +1,5 @@
 -- The pump under test: what each act does to it, and what is printed.   (01, Marked figures: the bench program; docs/DECISIONS.md, 29)
-use Rattle.std.specs.Prelude.{ℕ, Bool, true, false, List, [], ◌∷◌, ◌++◌, eqb}
-use Rattle.base.specs.If.{if◌then◌else◌}
+use Rattle.std.specs.Prelude.{ℕ, Bool, true, false, List, [], ◌∷◌, ◌++◌, eqb, if◌then◌else◌}
 use Rattle.pump.specs.Calls.{byte_report, byte_buffer, pin_call}
 use Rattle.pump.specs.Holder.{model_phases, fresh_pump}
 use Rattle.pump.specs.Reports.{is_refused}

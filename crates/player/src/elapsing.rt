@@ -1,6 +1,5 @@
 // Time that passes: so many ticks, by calls of at most a million.
-ghost use Rattle.std.specs.Prelude.{◌≡◌, ◌-◌, ◌≤◌};
-ghost use Rattle.base.specs.If.{if◌then◌else◌};
+ghost use Rattle.std.specs.Prelude.{◌≡◌, ◌-◌, ◌≤◌, if◌then◌else◌};
 ghost use Rattle.player.specs.Elapsing.{Roomy, Further, portion, call_for, begun, elapsed};
 
 use pump::{Pump, Refusal, Report};

@@ -1,6 +1,5 @@
 // What is printed, a line at a time. Each function writes from `at` on and answers the next place.
-ghost use Rattle.std.specs.Prelude.{◌≡◌, ◌⊎◌, [], ◌∷◌, ◌++◌, ◌+◌, ◌≤◌, ◌<◌, eqb, length};
-ghost use Rattle.base.specs.If.{if◌then◌else◌};
+ghost use Rattle.std.specs.Prelude.{◌≡◌, ◌⊎◌, [], ◌∷◌, ◌++◌, ◌+◌, ◌≤◌, ◌<◌, eqb, length, if◌then◌else◌};
 ghost use Rattle.base.specs.Wrote.{Wrote};
 ghost use Rattle.player.specs.Printing.{Prints, complaint_line, counts_line, decimal, unframed};
 

@@ -1,8 +1,8 @@
 -- What a falling edge of pin 2 or 4 does, by the alarm, the mode and the trap that it finds.
 -- Assumes nothing.
+use Rattle.std.specs.Prelude.{if◌then◌else◌}
 use mathlib.Core.Path.{◌≡◌, refl, sym, ap, ◌∙◌}
 use mathlib.Core.Bool.{Bool, true, false}
-use Rattle.base.specs.If.{if◌then◌else◌}
 use Rattle.base.proofs.Choices.{false_true}
 use Rattle.program.specs.Control.{run_on, stop_now}
 use Rattle.program.specs.Edges.{foot_switch, unless_alarm, spring, spring_in, spring_by}

@@ -1,6 +1,5 @@
 -- RUN and STP: what they make of the program under way, and whether they apply.   (01, Commands)
-use Rattle.std.specs.Prelude.{ℕ}
-use Rattle.base.specs.If.{if◌then◌else◌}
+use Rattle.std.specs.Prelude.{ℕ, if◌then◌else◌}
 use Rattle.words.specs.Functions.{is_phase}
 use Rattle.words.specs.declared.answers.Reply.{Reply}
 use Rattle.words.specs.declared.answers.Reply.TheVariants as reply

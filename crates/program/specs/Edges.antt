@@ -1,6 +1,5 @@
 -- One level of a pin.   (01, Ticks and phases: "Pin 4 falling ..", "Pin 2 falling ..")
-use Rattle.std.specs.Prelude.{Bool, ◌&&◌, not}
-use Rattle.base.specs.If.{if◌then◌else◌}
+use Rattle.std.specs.Prelude.{Bool, ◌&&◌, not, if◌then◌else◌}
 use Rattle.program.specs.Control.{run_on, stop_now}
 use Rattle.program.specs.Cores.{with_pins, with_run}
 use Rattle.program.specs.Runs.{fire, is_moving, pending}

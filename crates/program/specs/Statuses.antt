@@ -1,6 +1,5 @@
 -- The status, and the phase that a command concerns.   (01, Line and answer: the status; Commands)
-use Rattle.std.specs.Prelude.{ℕ}
-use Rattle.base.specs.If.{if◌then◌else◌}
+use Rattle.std.specs.Prelude.{ℕ, if◌then◌else◌}
 use Rattle.drive.specs.declared.directions.Direction.{Direction}
 use Rattle.drive.specs.declared.directions.Direction.TheVariants.{Infuse, Withdraw}
 use Rattle.words.specs.declared.answers.Status.{Status}

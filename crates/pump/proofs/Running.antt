@@ -1,6 +1,7 @@
 -- Many ticks of the pump are as many of its core and of its link, up to one that sends an alarm, and stay sound; what is known with some
 -- of them left.
 -- Assumes nothing.
+use Rattle.std.specs.Prelude.{if◌then◌else◌}
 use Prim.Native.Nat.{ℕ, zero, suc, ◌+◌, ◌-◌, ◌*◌, ◌≤◌, ◌<◌}
 use mathlib.Core.Path.{◌≡◌, refl, sym, ap, ◌∙◌, subst}
 use mathlib.Core.Logic.{◌⊎◌, inl, inr}
@@ -9,10 +10,9 @@ use mathlib.Core.List.{List}
 use native.Mathlib.Nat.{zero-add}
 use native.Mathlib.Numerals.{add-one}
 use native.Mathlib.Omega.{arith}
-use lib.Dec.{leb, ltb, eqb}
+use lib.Dec.{ltb, eqb}
 use lib.ListN.{length}
 use borrow.Author.Tests.{le-leb, le-ltb, ltb-true, ltb-false, ne_eqb}
-use Rattle.base.specs.If.{if◌then◌else◌}
 use Rattle.base.proofs.Choices.{and_left, and_right, false_true}
 use Rattle.words.specs.declared.answers.Alarm.{Alarm}
 use Rattle.words.specs.declared.answers.Alarm.TheVariants.{TimeOut}
@@ -43,8 +43,7 @@ use Rattle.pump.specs.Reports.{gone, gone_buffer}
 use Rattle.pump.specs.declared.holder.Pump.{Pump}
 use Rattle.pump.specs.declared.many.Going.{Going}
 use Rattle.pump.specs.declared.reports.Refusal.{Refusal}
-use Rattle.pump.specs.declared.reports.Refusal.TheVariants.{Accepted, ShortBuffer, Unsound}
-use Rattle.pump.specs.declared.reports.Report.{Report}
+use Rattle.pump.specs.declared.reports.Refusal.TheVariants.{Accepted}
 use Rattle.pump.proofs.Alarms as alarms
 use Rattle.pump.proofs.Alarms.{Quiet, resting, quiet_none, quiet_before, quiet_sent, quiet_device, next_device, next_sent}
 use Rattle.pump.proofs.Calling.{Taken, many_taken, silent_length, silent_buffer}

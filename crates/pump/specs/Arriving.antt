@@ -1,7 +1,6 @@
 -- A byte, before what it brought is heard: what it makes of the line or, in Safe mode, of the packet under way.   (01, Line and answer;
 -- 02, 2/12)
-use Rattle.std.specs.Prelude.{ℕ, Bool, true, false, take}
-use Rattle.base.specs.If.{if◌then◌else◌}
+use Rattle.std.specs.Prelude.{ℕ, Bool, true, false, take, if◌then◌else◌}
 use Rattle.line.specs.Lines.{empty_line, after_byte}
 use Rattle.line.specs.Requests.{asked_in, asked_of}
 use Rattle.line.specs.declared.lines.Arrived.{Arrived}

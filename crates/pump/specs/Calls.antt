@@ -1,7 +1,6 @@
 -- The calls, refusals included: for each the new state, the whole report and, where one is handed in, the whole buffer.   (01, Calls;
 -- 02, 1/12 and 2/12)
-use Rattle.std.specs.Prelude.{ℕ, zero, suc, ◌+◌, ◌≤◌, List, eqb, length}
-use Rattle.base.specs.If.{if◌then◌else◌}
+use Rattle.std.specs.Prelude.{ℕ, zero, suc, ◌+◌, ◌≤◌, List, eqb, length, if◌then◌else◌}
 use Rattle.words.specs.declared.answers.Reply.TheVariants.{Garbled}
 use Rattle.words.specs.declared.answers.Said.{Said}
 use Rattle.words.specs.declared.answers.Said.TheVariants as said
@@ -17,7 +16,7 @@ use Rattle.answer.specs.declared.frame.Frame.TheVariants as frame
 use Rattle.pump.specs.Arriving.{arrival}
 use Rattle.pump.specs.Device.{edge, hear_text, said}
 use Rattle.pump.specs.Holder.{phase_count, phase_at, here_of, with_device, edited, is_sound_pump}
-use Rattle.pump.specs.Reports.{of_pin, of_byte, of_ticks, is_refused, Outcome, refused, unless_refused, reported, moved_by, moved_buffer}
+use Rattle.pump.specs.Reports.{of_pin, of_byte, of_ticks, is_refused, Outcome, unless_refused, reported, moved_by, moved_buffer}
 use Rattle.pump.specs.declared.arriving.Arrival.{Arrival}
 use Rattle.pump.specs.declared.arriving.Brought.{Brought}
 use Rattle.pump.specs.declared.arriving.Brought.TheVariants as brought

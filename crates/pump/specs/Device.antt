@@ -1,8 +1,7 @@
 -- All of the state but the phases: what an edge and a whole text do to it, with the phases looked up for it.   (01, Line and answer: the
 -- checks in order; Calls; 02, 2/12)
-use Rattle.std.specs.Prelude.{ℕ, Bool, ◌||◌, not, List, [], ◌∷◌, leb, eqb}
+use Rattle.std.specs.Prelude.{ℕ, Bool, ◌||◌, not, List, [], ◌∷◌, leb, eqb, if◌then◌else◌}
 use Rattle.base.specs.All.{all}
-use Rattle.base.specs.If.{if◌then◌else◌}
 use Rattle.drive.specs.declared.directions.Direction.{Direction}
 use Rattle.words.specs.declared.answers.Reply.{Reply}
 use Rattle.words.specs.declared.answers.Reply.TheVariants as reply

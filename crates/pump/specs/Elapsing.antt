@@ -1,7 +1,6 @@
 -- A tick of the device: that of the core, by the rules of the phases, and that of the link; and the alarm that it raises, which Safe mode
 -- sends. The same of several ticks, the last of which may raise one.   (02, 2/12)
-use Rattle.std.specs.Prelude.{ℕ, Bool, true, false, ◌&&◌, not, ltb, eqb}
-use Rattle.base.specs.If.{if◌then◌else◌}
+use Rattle.std.specs.Prelude.{ℕ, Bool, true, false, ◌&&◌, not, ltb, eqb, if◌then◌else◌}
 use Rattle.words.specs.declared.answers.Alarm.TheVariants.{TimeOut}
 use Rattle.words.specs.declared.answers.Said.{Said}
 use Rattle.words.specs.declared.answers.Said.TheVariants as said

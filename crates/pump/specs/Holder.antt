@@ -1,7 +1,6 @@
 -- The phases: the phase of a number, power-up, the edit that a command asks for, and when the whole is sound.   (01, Calls; Commands,
 -- Power-up; Ticks and phases)
-use Rattle.std.specs.Prelude.{ℕ, ◌-◌, Bool, true, ◌&&◌, List, [], ◌∷◌, length, get_or, set, replicate}
-use Rattle.base.specs.If.{if◌then◌else◌}
+use Rattle.std.specs.Prelude.{ℕ, ◌-◌, Bool, true, ◌&&◌, List, [], ◌∷◌, length, get_or, set, replicate, if◌then◌else◌}
 use Rattle.words.specs.Functions.{is_phase}
 use Rattle.words.specs.Phases.{idle, power_up, is_sound_phase}
 use Rattle.words.specs.declared.functions.Function.TheVariants as f

@@ -1,6 +1,5 @@
 -- What every call hands back, and the refusals with their numbers.   (01, Calls; 02, 1/12 and 2/12)
-use Rattle.std.specs.Prelude.{ℕ, Bool, not, ◌||◌, List, ltb, eqb}
-use Rattle.base.specs.If.{if◌then◌else◌}
+use Rattle.std.specs.Prelude.{ℕ, Bool, not, ◌||◌, List, ltb, eqb, if◌then◌else◌}
 use Rattle.tick.specs.declared.Moved.{Moved}
 use Rattle.leap.specs.Leaps.{most_ticks, Moves}
 use Rattle.answer.specs.Answers.{room, length_in, buffer_after}

@@ -1,7 +1,6 @@
 -- What an input says: its lines, and the item of each. What the items do to the pump and print stands in player/specs/Effects.antt.
 -- (01, Marked figures: the bench program; docs/DECISIONS.md, 29 to 31)
-use Rattle.std.specs.Prelude.{ℕ, ◌+◌, ◌*◌, ◌-◌, Bool, true, false, ◌&&◌, List, [], ◌∷◌, eqb, leb}
-use Rattle.base.specs.If.{if◌then◌else◌}
+use Rattle.std.specs.Prelude.{ℕ, ◌+◌, ◌*◌, ◌-◌, Bool, true, false, ◌&&◌, List, [], ◌∷◌, eqb, leb, if◌then◌else◌}
 use Rattle.base.specs.Text.{letter}
 use Rattle.decimal.specs.Read.{is_digit}
 use Rattle.script.specs.Places.{carriage_return, newline}

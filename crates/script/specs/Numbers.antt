@@ -1,6 +1,5 @@
 -- The numbers of an item, as their digits come, and what they ask for.   (01, Marked figures: the bench program; docs/DECISIONS.md, 30)
-use Rattle.std.specs.Prelude.{ℕ, ◌+◌, ◌*◌, Bool, ◌&&◌, leb, ltb}
-use Rattle.base.specs.If.{if◌then◌else◌}
+use Rattle.std.specs.Prelude.{ℕ, ◌+◌, ◌*◌, Bool, ◌&&◌, leb, ltb, if◌then◌else◌}
 use Rattle.script.specs.declared.places.Act.{Act}
 use Rattle.script.specs.declared.places.Act.TheVariants.{Set, Run, Complain}
 

@@ -1,8 +1,7 @@
 -- Where in a line the input stands, and what a byte asks for there: how the program reads, a byte at a time. What an input says stands
 -- in Items, line by line, and `itemised` (player/proofs/Itemised.antt) says that the two are the same.   (01, Marked figures: the bench
 -- program; docs/DECISIONS.md, 29 to 31)
-use Rattle.std.specs.Prelude.{ℕ, ◌-◌, Bool, true, false, eqb}
-use Rattle.base.specs.If.{if◌then◌else◌}
+use Rattle.std.specs.Prelude.{ℕ, ◌-◌, Bool, true, false, eqb, if◌then◌else◌}
 use Rattle.base.specs.Text.{letter}
 use Rattle.decimal.specs.Read.{is_digit}
 use Rattle.script.specs.Numbers.{grown, ticks_asked, level_asked}

@@ -1,6 +1,5 @@
 -- What the service program prints of ticks, of bytes and of packets, a line at a time.   (docs/DECISIONS.md, 37 to 39)
-use Rattle.std.specs.Prelude.{ℕ, ◌+◌, ◌-◌, ◌/◌, ◌%◌, Bool, List, [], ◌∷◌, ◌++◌, eqb, ltb, length}
-use Rattle.base.specs.If.{if◌then◌else◌}
+use Rattle.std.specs.Prelude.{ℕ, ◌+◌, ◌-◌, ◌/◌, ◌%◌, Bool, List, [], ◌∷◌, ◌++◌, eqb, ltb, length, if◌then◌else◌}
 use Rattle.base.specs.Text.{letter, text}
 use Rattle.script.specs.Places.{newline}
 use Rattle.player.specs.Printing.{complaint_line, decimal}

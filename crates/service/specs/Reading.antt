@@ -1,7 +1,6 @@
 -- What the service program reads of a `B` line, bytes in hexadecimal, two digits each, in either case, and of a `P` line, the bytes of a
 -- text.   (docs/DECISIONS.md, 37 to 39)
-use Rattle.std.specs.Prelude.{ℕ, ◌+◌, ◌-◌, ◌*◌, Bool, ◌&&◌, List, eqb, leb, ltb, length, set}
-use Rattle.base.specs.If.{if◌then◌else◌}
+use Rattle.std.specs.Prelude.{ℕ, ◌+◌, ◌-◌, ◌*◌, Bool, ◌&&◌, List, eqb, leb, ltb, length, set, if◌then◌else◌}
 use Rattle.base.specs.Text.{letter}
 use Rattle.script.specs.Places.{carriage_return}
 use Rattle.script.specs.declared.places.Spot.TheVariants as spot

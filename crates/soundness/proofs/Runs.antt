@@ -1,5 +1,6 @@
 -- The program under way stays sound: replaced whole, or where it goes on.
 -- Assumes nothing.
+use Rattle.std.specs.Prelude.{if◌then◌else◌}
 use Prim.Native.Nat.{ℕ, ◌+◌, ◌≤◌}
 use mathlib.Core.Path.{◌≡◌, refl, ap, ◌∙◌}
 use mathlib.Core.Logic.{⊎_elim}
@@ -7,7 +8,6 @@ use mathlib.Core.Bool.{Bool, true, false}
 use native.Mathlib.Omega.{arith}
 use lib.Dec.{leb, eqb}
 use borrow.Author.Tests.{leb-true, eqb-false}
-use Rattle.base.specs.If.{if◌then◌else◌}
 use Rattle.base.proofs.Choices as choices
 use Rattle.base.proofs.Choices.{and_left, and_right}
 use Rattle.drive.specs.Rates.{most_rate}

@@ -1,6 +1,5 @@
 -- A core, and a program under way, that are sound in a table of phases, which is given by what stands at each number.   (01, Calls)
-use Rattle.std.specs.Prelude.{ℕ, ◌≤◌, ◌≡◌, true, eqb}
-use Rattle.base.specs.If.{if◌then◌else◌}
+use Rattle.std.specs.Prelude.{ℕ, ◌≤◌, ◌≡◌, true, eqb, if◌then◌else◌}
 use Rattle.drive.specs.declared.syringe.Syringe.{Syringe}
 use Rattle.words.specs.Phases.{is_sound_phase}
 use Rattle.words.specs.declared.phases.Phase.{Phase}

@@ -3,6 +3,7 @@
 --     whole_after     the state is whole; sound-after: so it is sound
 --     never_unsound   and no call is refused with 4, because it is not sound
 -- Assumes nothing.
+use Rattle.std.specs.Prelude.{if◌then◌else◌}
 use Prim.Native.Nat.{ℕ, ◌-◌, ◌≤◌}
 use mathlib.Core.Path.{◌≡◌, refl, sym, ap, ◌∙◌, subst}
 use mathlib.Core.Bool.{Bool, true, false, ◌||◌, not}
@@ -11,7 +12,6 @@ use native.Mathlib.Omega.{arith}
 use lib.Dec.{leb, eqb}
 use lib.ListN.{length, take, set, length-set}
 use borrow.Author.Tests.{le-leb}
-use Rattle.base.specs.If.{if◌then◌else◌}
 use Rattle.base.proofs.Each.{and_both}
 use Rattle.decimal.specs.Writable.{is_writable}
 use Rattle.words.specs.Commands.{amount}

@@ -1,12 +1,12 @@
 -- What a text and a byte make the pump say, as the relations HearsText and Hears and as the definitions of the calls: the two agree.
 -- Assumes nothing.
+use Rattle.std.specs.Prelude.{if◌then◌else◌}
 use Prim.Native.Nat.{ℕ, ◌+◌, ◌≤◌, ◌<◌}
 use mathlib.Core.Path.{◌≡◌, refl, sym, ap, ◌∙◌, subst}
 use mathlib.Core.Bool.{Bool, true, false}
 use lib.Dec.{leb, eqb}
 use lib.ListN.{take}
 use borrow.Author.Tests.{eqb-true, eqb-false, eq-eqb, ne_eqb, le-leb, lt-leb, leb-true, leb-false}
-use Rattle.base.specs.If.{if◌then◌else◌}
 use Rattle.words.specs.declared.answers.Reply.TheVariants as reply
 use Rattle.words.specs.declared.commands.Asked.{Asked}
 use Rattle.words.specs.declared.commands.Command.{Command}
@@ -17,7 +17,7 @@ use Rattle.program.specs.Statuses.{in_hand}
 use Rattle.program.specs.declared.state.Pending.{Pending}
 use Rattle.program.specs.declared.state.Pending.TheVariants.{NoAlarm, Raised}
 use Rattle.line.specs.Characters.{is_return, is_dropped, arrival_of, raised}
-use Rattle.line.specs.Lines.{empty_line, after_arrival, after_byte}
+use Rattle.line.specs.Lines.{after_arrival, after_byte}
 use Rattle.line.specs.Requests.{asked_in, asked_of}
 use Rattle.line.specs.declared.arriving.Arrival.{Arrival}
 use Rattle.line.specs.declared.arriving.Arrival.TheVariants.{Dropped, Kept}

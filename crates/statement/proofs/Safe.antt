@@ -7,6 +7,7 @@
 --     limit_set         SAF n leaves 1,000 n ticks
 --     time_out_at       k ticks later the next one raises alarm T exactly where k + 1 were left
 -- Assumes nothing.
+use Rattle.std.specs.Prelude.{if◌then◌else◌}
 use Prim.Native.Nat.{ℕ, zero, suc, ◌+◌, ◌-◌, ◌*◌, ◌≤◌}
 use mathlib.Core.Path.{◌≡◌, refl, sym, ap, ◌∙◌, subst}
 use mathlib.Core.Logic.{◌⊎◌, inl, inr, ◌↔◌}
@@ -15,7 +16,6 @@ use mathlib.Core.List.{List, [], ◌∷◌, ◌++◌, map}
 use lib.Dec.{eqb}
 use lib.ListN.{length, take, set, replicate}
 use borrow.Author.Tests.{eqb-true, eqb-false}
-use Rattle.base.specs.If.{if◌then◌else◌}
 use Rattle.crc.specs.Noise.{Bytes}
 use Rattle.words.specs.Functions.{is_phase}
 use Rattle.words.specs.declared.answers.Said.{Said}

@@ -1,6 +1,5 @@
 -- How C sees a result of the number crate: one number, or bytes in the buffer that it lends.
-use Rattle.std.specs.Prelude.{ℕ, Bool, List, ◌++◌, leb, length, drop}
-use Rattle.base.specs.If.{if◌then◌else◌}
+use Rattle.std.specs.Prelude.{ℕ, Bool, List, ◌++◌, leb, length, drop, if◌then◌else◌}
 use Rattle.decimal.specs.declared.input.Reading.{Reading}
 use Rattle.decimal.specs.declared.input.Reading.TheVariants.{Number, NoNumber}
 use Rattle.decimal.specs.declared.short.Short.{Short}

@@ -1,6 +1,5 @@
 -- Entering a phase, function by function: what it makes of the program under way.   (01, Ticks and phases)
-use Rattle.std.specs.Prelude.{ℕ, ◌≤◌, Bool, ◌&&◌, ltb, eqb}
-use Rattle.base.specs.If.{if◌then◌else◌}
+use Rattle.std.specs.Prelude.{ℕ, ◌≤◌, Bool, ◌&&◌, ltb, eqb, if◌then◌else◌}
 use Rattle.drive.specs.Syringe.{step_target}
 use Rattle.drive.specs.declared.syringe.Syringe.{Syringe}
 use Rattle.words.specs.Functions.{pause_ticks}

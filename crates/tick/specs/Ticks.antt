@@ -1,6 +1,5 @@
 -- One tick: it enters the current phase or works the entered one, and only I, W and T move.   (01, Ticks and phases)
-use Rattle.std.specs.Prelude.{ℕ, ◌≤◌, ◌≡◌, Bool, true, false, ltb}
-use Rattle.base.specs.If.{if◌then◌else◌}
+use Rattle.std.specs.Prelude.{ℕ, ◌≤◌, ◌≡◌, Bool, true, false, ltb, if◌then◌else◌}
 use Rattle.drive.specs.declared.directions.Direction.{Direction}
 use Rattle.drive.specs.declared.directions.Direction.TheVariants.{Infuse, Withdraw}
 use Rattle.words.specs.Functions.{is_beep, is_out, datum}

@@ -1,6 +1,5 @@
 -- Working an entered phase: a tick of a visit, a tick of a timed pause.   (01, Ticks and phases, RAT and PAS; Volumes)
-use Rattle.std.specs.Prelude.{ℕ, ◌+◌, ◌-◌, ◌*◌, ◌≤◌, ◌≡◌, leb}
-use Rattle.base.specs.If.{if◌then◌else◌}
+use Rattle.std.specs.Prelude.{ℕ, ◌+◌, ◌-◌, ◌*◌, ◌≤◌, ◌≡◌, leb, if◌then◌else◌}
 use Rattle.drive.specs.Rates.{hourly_rate, most_rate}
 use Rattle.drive.specs.Syringe.{most_diameter, step_volume, step_threshold}
 use Rattle.drive.specs.declared.directions.Direction.{Direction}

@@ -1,5 +1,6 @@
 -- The quick tests of a function's datum, and of a phase, say no more than the rule; the tests of a phase.
 -- Assumes nothing.
+use Rattle.std.specs.Prelude.{if◌then◌else◌}
 use Prim.Native.Nat.{ℕ, ◌*◌, ◌/◌, ◌≤◌}
 use mathlib.Core.Path.{◌≡◌, refl, sym, ◌∙◌}
 use mathlib.Core.Bool.{Bool, true, false, ◌&&◌}
@@ -7,7 +8,6 @@ use native.Mathlib.Omega.{arith}
 use lib.Dec.{leb, eqb}
 use lib.Bits.{bit_and, bit_or, or_comm, or_add_and, and_le_r}
 use borrow.Author.Tests.{eq-eqb, ne_eqb, eqb-true}
-use Rattle.base.specs.If.{if◌then◌else◌}
 use Rattle.base.proofs.Choices.{and_left, and_right, false_true}
 use Rattle.decimal.specs.Writable.{is_writable}
 use Rattle.decimal.proofs.Grid.{writable_ones}

@@ -1,7 +1,6 @@
 -- The fifteen functions, listed once with a number and a datum for each, and every question about a function, by these two.
 -- (01, Numbers; Commands, FUN; Ticks and phases)
-use Rattle.std.specs.Prelude.{ℕ, ◌*◌, Bool, true, ◌&&◌, ◌||◌, leb, eqb}
-use Rattle.base.specs.If.{if◌then◌else◌}
+use Rattle.std.specs.Prelude.{ℕ, ◌*◌, Bool, true, ◌&&◌, ◌||◌, leb, eqb, if◌then◌else◌}
 use Rattle.words.specs.declared.functions.Function.{Function}
 use Rattle.words.specs.declared.functions.Function.TheVariants as f
 

@@ -1,6 +1,5 @@
 -- The phase record: the phases of a pump just switched on, and which a sound pump may hold.   (01, Commands, Power-up; Calls)
-use Rattle.std.specs.Prelude.{ℕ, Bool, ◌&&◌, eqb}
-use Rattle.base.specs.If.{if◌then◌else◌}
+use Rattle.std.specs.Prelude.{ℕ, Bool, ◌&&◌, eqb, if◌then◌else◌}
 use Rattle.decimal.specs.Writable.{is_writable}
 use Rattle.drive.specs.declared.rates.RateUnit.TheVariants.{Mh}
 use Rattle.drive.specs.declared.directions.Direction.TheVariants.{Infuse}

@@ -1,7 +1,6 @@
 -- How names, units and directions are spelled: once, for what is read and for what is printed.   (01, Line and answer; Volumes;
 -- Commands; Ticks and phases; 000, 9.3)
-use Rattle.std.specs.Prelude.{ℕ, ◌||◌, List, [], ◌∷◌, eqb}
-use Rattle.base.specs.If.{if◌then◌else◌}
+use Rattle.std.specs.Prelude.{ℕ, ◌||◌, List, [], ◌∷◌, eqb, if◌then◌else◌}
 use Rattle.base.specs.Text.{text}
 use Rattle.decimal.specs.Print.{last_digit, print_two, print_tenths}
 use Rattle.drive.specs.declared.rates.RateUnit.{RateUnit}

@@ -1,6 +1,5 @@
 // What a phase does. A case's datum may be any u8, also one that no pump can hold: `fits` says which it may.
-ghost use Rattle.std.specs.Prelude.{◌≡◌, length, take};
-ghost use Rattle.base.specs.If.{if◌then◌else◌};
+ghost use Rattle.std.specs.Prelude.{◌≡◌, length, take, if◌then◌else◌};
 ghost use Rattle.words.specs.Functions.{number, datum, is_flow, is_ramp, is_rate_phase, is_wait, is_beep, is_out, takes_phase, takes_count};
 ghost use Rattle.words.specs.Functions.{takes_datum, fits, pause_ticks};
 ghost use Rattle.words.specs.Spelling.{function_name};

@@ -1,7 +1,6 @@
 -- `proved_bytes` is safe and ends: each byte adds at most 255, and there are eight at a time and fewer than 2^32 times.
 -- Assumes nothing.
 use native.Mathlib.Omega.{arith}
-use Prim.Native.Nat.{◌-◌}
 use Rattle.test_bytes.proofs.proved_bytes.Goals as goal
 
 pub loop-k-init : goal.loop-k-init

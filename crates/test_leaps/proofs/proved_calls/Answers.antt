@@ -1,7 +1,6 @@
 -- `proved_calls` is safe and ends: each turn adds less than 2^32, and there are fewer than 2^32 turns.
 -- Assumes nothing.
 use native.Mathlib.Omega.{arith}
-use Prim.Native.Nat.{◌-◌}
 use Rattle.test_leaps.proofs.proved_calls.Goals as goal
 
 pub loop-i-init : goal.loop-i-init

@@ -85,7 +85,7 @@ going_with phases r rate trap loops g a b c =
             rate_most = a;
             trap_sound = b;
             loops_sound = c;
-            mode_sound = g.free _;
+            mode_sound = g.free (record { place = r.place; rate = rate; loops = loops; mode = r.mode; trap = trap });
           };
       free = g.free;
     }
@@ -106,7 +106,7 @@ module _ (phases : ℕ) (look : ℕ → Phase) (d : Syringe) (r : Run) (g : Goin
           rate_most = g.clauses.rate_most;
           trap_sound = g.clauses.trap_sound;
           loops_sound = g.clauses.loops_sound;
-          mode_sound = g.free _;
+          mode_sound = g.free (with_place r (record { work = work; current = n }));
         }),
     w,
   )

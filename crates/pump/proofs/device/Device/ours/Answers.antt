@@ -1,0 +1,10 @@
+-- `Device::ours` meets its contract.
+-- Assumes nothing.
+use Rattle.pump.proofs.Hearing.{hearing}
+use Rattle.pump.proofs.device.Device.ours.Goals as goal
+
+pub returns-in-Raised : goal.returns-in-Raised
+returns-in-Raised c = search hearing
+
+pub returns : goal.returns
+returns c = search hearing

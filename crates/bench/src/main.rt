@@ -5,28 +5,36 @@
 // What the items do and print is the crate `player`; here it is read and written.
 #![tactic(auto)]
 
-ghost use Rattle.std.specs.Prelude.{◌≡◌, IfOk};
-ghost use Rattle.player.specs.Scripts.{play};
+ghost use Rattle.std.specs.Prelude.{◌≡◌, ◌-◌, ◌^◌, ◌<◌, length, IfOk, OnOk, IfSome};
+ghost use Rattle.std.specs.Io.KnownBytes.{Appends};
+ghost use Rattle.player.specs.Scripts.{play, says, closed, script};
+ghost use Rattle.bench.specs.Serving.{Serves};
 
 use player::{Bench, Fed};
 use std::io;
 use std::io::{Read, Write};
 
 fn main(rt: HostRuntime) -> io::Result<()> {
-    let mut input = rt.stdin();
-    let mut output = rt.stdout();
+    run(&mut rt.stdin(), &mut rt.stdout())
+}
+
+// All of the input. Nothing says that an input ends: a count of its reads does, and no input takes that many.
+fn run<R: Read, W: Write>(input: &mut R, output: &mut W) -> io::Result<()>
+    ensures { OnOk result (IfSome (R.remaining input.old)
+        (λ s. length s < 2 ^ 64 - 1 → Appends (W.contents output.old) (W.contents output.new) (script s))) }
+{
     let mut bench = Bench::new();
-    // Nothing says that an input ends: a count of its reads does, and no input takes that many.
     for _ in 0..u64::MAX {
-        let served = serve(bench, &mut input, &mut output)?;
+        let served = serve(bench, input, output)?;
         bench = served.bench;
         if served.ended {
             break;
         }
     }
-    close(bench, &mut output)
+    close(bench, output)
 }
 
+// The bench after a read, and whether the input has ended.
 #[derive(Clone, Copy)]
 struct Served {
     bench: Bench,
@@ -34,7 +42,10 @@ struct Served {
 }
 
 // One read, however little it brings, and all that it has to say.
-fn serve(bench: Bench, input: &mut impl Read, output: &mut impl Write) -> io::Result<Served> {
+fn serve<R: Read, W: Write>(bench: Bench, input: &mut R, output: &mut W) -> io::Result<Served>
+    ensures { IfOk result (Serves bench (R.remaining input.old) (R.remaining input.new)
+        (W.contents output.old) (W.contents output.new)) }
+{
     let mut space = [0u8; 65_536];
     let n = input.read(&mut space)?;
     let bench = play(bench, &space[..n], output)?;
@@ -46,8 +57,9 @@ fn serve(bench: Bench, input: &mut impl Read, output: &mut impl Write) -> io::Re
 }
 
 // What `s` has to say, in writes as large as the buffer allows.
-fn play(bench: Bench, s: &[u8], output: &mut impl Write) -> io::Result<Bench>
-    ensures { IfOk result (λ b. b ≡ play bench s.now) }
+fn play<W: Write>(bench: Bench, s: &[u8], output: &mut W) -> io::Result<Bench>
+    ensures bench { IfOk result (λ b. b ≡ play bench s.now) }
+    ensures output { OnOk result (Appends (W.contents output.old) (W.contents output.new) (says bench s.now)) }
 {
     let mut fed = Fed {
         bench: bench,
@@ -66,7 +78,9 @@ fn play(bench: Bench, s: &[u8], output: &mut impl Write) -> io::Result<Bench>
 }
 
 // The end of the input.
-fn close(bench: Bench, output: &mut impl Write) -> io::Result<()> {
+fn close<W: Write>(bench: Bench, output: &mut W) -> io::Result<()>
+    ensures { OnOk result (Appends (W.contents output.old) (W.contents output.new) (closed bench)) }
+{
     let mut out = [0u8; 65_536];
     let end = bench.closed(&mut out);
     output.write_all(&out[..end])?;

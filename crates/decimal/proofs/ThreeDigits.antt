@@ -8,12 +8,11 @@ use native.Mathlib.Nat.{pow-suc, pow-le-pow_right, lt_of_lt_of_le}
 use native.Mathlib.Numerals.{add-one}
 use native.Mathlib.Omega.{arith}
 use borrow.Author.Tests.{le-leb, lt-leb}
-use lib.Dec.{lit<, leb}
+use lib.Dec.{lit<}
 use lib.ListN.{length, get_or, drop, drop_of_length-le}
 use lib.Seq.{drop-cons}
 use Rattle.base.specs.If.{if◌then◌else◌}
 use Rattle.base.proofs.Choices.{and_left, and_right}
-use Rattle.decimal.specs.declared.short.Three.{Three}
 use Rattle.decimal.specs.declared.short.Three.TheVariants.{Number, NoNumber}
 use Rattle.decimal.specs.Read.{is_digit, number_from}
 use Rattle.decimal.specs.Short.{all_digits, read_three}

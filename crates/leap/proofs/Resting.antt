@@ -19,7 +19,6 @@ use Rattle.tick.proofs.Ticking.{ticks_off, ticks_on, ticks_pause}
 use Rattle.leap.specs.Leaps.{no_tick, and_tick, next_tick, ticks, Leap}
 use Rattle.leap.specs.Pauses.{leap_pause}
 use Rattle.leap.specs.Reports.{silent_for}
-use Rattle.leap.specs.Visits.{none}
 use Rattle.leap.specs.declared.Leapt.{Leapt}
 
 -- ---- what stands still

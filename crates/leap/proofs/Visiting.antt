@@ -3,7 +3,7 @@
 use Prim.Native.Nat.{ℕ, ◌+◌, ◌-◌, ◌≤◌, ◌<◌}
 use mathlib.Core.Path.{◌≡◌, refl, sym, ap, ◌∙◌}
 use mathlib.Core.Logic.{◌⊎◌, inl, inr}
-use mathlib.Core.Bool.{Bool, true, false, ◌||◌, or-true}
+use mathlib.Core.Bool.{Bool, true, false, or-true}
 use native.Mathlib.Omega.{arith}
 use lib.Dec.{ltb, eqb}
 use borrow.Author.Tests.{ltb-true, ltb-false, eqb-true, eq-eqb, ne_eqb, lt-ltb, le-ltb, lt-leb}
@@ -13,7 +13,7 @@ use Rattle.base.proofs.Each.{either}
 use Rattle.dispense.specs.Visits.{Working, due_of, store_of, steps_of, given_of, worked_of, is_done}
 use Rattle.dispense.specs.declared.visits.Visit.{Visit}
 use Rattle.leap.specs.Strides.{Steady, stride_steps, stride_store, stride_over}
-use Rattle.leap.specs.Visits.{is_short, given_after, visit_after, none}
+use Rattle.leap.specs.Visits.{is_short, given_after, visit_after}
 use Rattle.leap.proofs.Striding.{steps_on, store_on, none_steps, none_store}
 
 -- ---- short of the target

@@ -1,9 +1,9 @@
 -- Calls of many ticks, one after the other: what is known after some of them, of which each does at least a tick.
 -- Assumes nothing.
-use Prim.Native.Nat.{ℕ, zero, suc, ◌+◌, ◌-◌, ◌*◌, ◌≤◌, ◌<◌, min}
-use mathlib.Core.Path.{◌≡◌, refl, sym, ap, ◌∙◌}
+use Prim.Native.Nat.{ℕ, zero, suc, ◌+◌, ◌-◌, ◌*◌, ◌≤◌, ◌<◌}
+use mathlib.Core.Path.{◌≡◌, refl, ap, ◌∙◌}
 use mathlib.Core.Bool.{Bool, true, false}
-use mathlib.Core.List.{List, []}
+use mathlib.Core.List.{[]}
 use native.Mathlib.Omega.{arith}
 use lib.Dec.{eqb}
 use borrow.Author.Tests.{eq-eqb, ne_eqb}
@@ -11,7 +11,7 @@ use Rattle.base.specs.If.{if◌then◌else◌}
 use Rattle.pump.specs.Reports.{is_refused}
 use Rattle.pump.specs.declared.holder.Pump.{Pump}
 use Rattle.pump.specs.declared.reports.Report.{Report}
-use Rattle.player.specs.Elapsing.{million, zeros, portion, call_for, left_after, portions_by, portions, begun, after_calls, elapsed}
+use Rattle.player.specs.Elapsing.{zeros, portion, call_for, left_after, portions_by, portions, begun, after_calls, elapsed}
 use Rattle.player.specs.Elapsing.{Roomy, Further}
 use Rattle.player.specs.declared.elapsing.Elapsed.{Elapsed}
 use Rattle.player.proofs.Done.{few_done, some_done}

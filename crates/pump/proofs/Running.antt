@@ -9,7 +9,7 @@ use mathlib.Core.List.{List}
 use native.Mathlib.Nat.{zero-add}
 use native.Mathlib.Numerals.{add-one}
 use native.Mathlib.Omega.{arith}
-use lib.Dec.{leb, ltb, eqb}
+use lib.Dec.{ltb, eqb}
 use lib.ListN.{length}
 use borrow.Author.Tests.{le-leb, le-ltb, ltb-true, ltb-false, ne_eqb}
 use Rattle.base.specs.If.{if◌then◌else◌}
@@ -43,8 +43,7 @@ use Rattle.pump.specs.Reports.{gone, gone_buffer}
 use Rattle.pump.specs.declared.holder.Pump.{Pump}
 use Rattle.pump.specs.declared.many.Going.{Going}
 use Rattle.pump.specs.declared.reports.Refusal.{Refusal}
-use Rattle.pump.specs.declared.reports.Refusal.TheVariants.{Accepted, ShortBuffer, Unsound}
-use Rattle.pump.specs.declared.reports.Report.{Report}
+use Rattle.pump.specs.declared.reports.Refusal.TheVariants.{Accepted}
 use Rattle.pump.proofs.Alarms as alarms
 use Rattle.pump.proofs.Alarms.{Quiet, resting, quiet_none, quiet_before, quiet_sent, quiet_device, next_device, next_sent}
 use Rattle.pump.proofs.Calling.{Taken, many_taken, silent_length, silent_buffer}

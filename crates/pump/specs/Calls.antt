@@ -17,7 +17,7 @@ use Rattle.answer.specs.declared.frame.Frame.TheVariants as frame
 use Rattle.pump.specs.Arriving.{arrival}
 use Rattle.pump.specs.Device.{edge, hear_text, said}
 use Rattle.pump.specs.Holder.{phase_count, phase_at, here_of, with_device, edited, is_sound_pump}
-use Rattle.pump.specs.Reports.{of_pin, of_byte, of_ticks, is_refused, Outcome, refused, unless_refused, reported, moved_by, moved_buffer}
+use Rattle.pump.specs.Reports.{of_pin, of_byte, of_ticks, is_refused, Outcome, unless_refused, reported, moved_by, moved_buffer}
 use Rattle.pump.specs.declared.arriving.Arrival.{Arrival}
 use Rattle.pump.specs.declared.arriving.Brought.{Brought}
 use Rattle.pump.specs.declared.arriving.Brought.TheVariants as brought

@@ -22,21 +22,20 @@ use Rattle.answer.specs.declared.frame.Frame.TheVariants.{Packet}
 use Rattle.answer.proofs.Theorems.{length_kept, answer_least, alarm_length}
 use Rattle.link.specs.Link.{link_tick}
 use Rattle.link.proofs.Soundness.{tick_sound}
-use Rattle.pump.specs.Calls.{tick_at, tick_call, tick_done, and_tick, one_more, in_turn, ticks_call, ticks_buffer, pin_call, hear, frame_of, answered}
+use Rattle.pump.specs.Calls.{tick_at, tick_done, and_tick, one_more, in_turn, ticks_call, ticks_buffer, pin_call, hear, frame_of, answered}
 use Rattle.pump.specs.Calls.{byte_report, byte_buffer}
 use Rattle.pump.specs.Device.{edge_of, edge}
 use Rattle.pump.specs.Elapsing.{after_tick, sent}
 use Rattle.pump.specs.Holder.{phase_count, phase_at, is_sound_pump}
 use Rattle.pump.specs.Reports.{refusal_number, of_pin, of_byte, of_ticks, reported, moved_by, moved_buffer}
 use Rattle.pump.specs.declared.holder.Pump.{Pump}
-use Rattle.pump.specs.declared.reports.Report.{Report}
 use Rattle.pump.proofs.Calling.{silent_length, silent_buffer}
 use Rattle.pump.proofs.Kept.{pump_core, pump_link, core_sound, table_here}
 use Rattle.pump.proofs.Running.{sound_tick, sound_tick_buffer}
 use Rattle.statement.specs.Facts.{core_of, link_of}
 use Rattle.statement.specs.Histories.{Call, byte_in, pin_at, tick_in, ticks_in}
 use Rattle.statement.specs.Outcomes.{Outcome, outcome_of, Pin, Still, Written, TickDone, Level, low, high, Edge, two, four, six}
-use Rattle.statement.specs.Outcomes.{RefusedAs, InTurn, none, more, TicksDone, Levelled, ByteHeard, Does, pump_with_core, pump_with_link}
+use Rattle.statement.specs.Outcomes.{RefusedAs, InTurn, none, more, TicksDone, Levelled, ByteHeard, Does, pump_with_core}
 use Rattle.statement.proofs.Hearing.{hears}
 use Rattle.statement.proofs.Raising.{raises, raised_kept, raised_output}
 use Rattle.statement.proofs.Refusals.{Fine, pin_test, refused_down, refused_some}

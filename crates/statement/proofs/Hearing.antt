@@ -17,7 +17,7 @@ use Rattle.program.specs.Statuses.{in_hand}
 use Rattle.program.specs.declared.state.Pending.{Pending}
 use Rattle.program.specs.declared.state.Pending.TheVariants.{NoAlarm, Raised}
 use Rattle.line.specs.Characters.{is_return, is_dropped, arrival_of, raised}
-use Rattle.line.specs.Lines.{empty_line, after_arrival, after_byte}
+use Rattle.line.specs.Lines.{after_arrival, after_byte}
 use Rattle.line.specs.Requests.{asked_in, asked_of}
 use Rattle.line.specs.declared.arriving.Arrival.{Arrival}
 use Rattle.line.specs.declared.arriving.Arrival.TheVariants.{Dropped, Kept}

@@ -1,12 +1,9 @@
 -- What the test of soundness says of the link: a limit, a timer, a part packet, and no line begun in Safe mode.
 -- Assumes nothing.
-use Prim.Native.Nat.{ℕ, ◌*◌, ◌≤◌, ◌<◌}
 use mathlib.Core.Path.{◌≡◌, refl, sym, ap, ◌∙◌}
 use mathlib.Core.Bool.{Bool, true, false, ◌||◌, not}
-use native.Mathlib.Omega.{arith}
 use lib.Dec.{eqb}
 use borrow.Author.Tests.{eqb-true, eq-eqb}
-use Rattle.base.proofs.Choices.{false_true}
 use Rattle.packet.proofs.Theorems.{sound_iff}
 use Rattle.link.specs.Link.{receiver_of, safe_in, is_safe, left_in, ticks_left, is_sound_timer, is_sound_in, is_sound_link, link_tick, link_ticks}
 use Rattle.link.specs.declared.Link.{Link}

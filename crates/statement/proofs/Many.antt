@@ -9,7 +9,7 @@ use Rattle.pump.specs.Calls.{tick_at, ticks_call}
 use Rattle.pump.specs.declared.holder.Pump.{Pump}
 use Rattle.pump.specs.declared.reports.Report.{Report}
 use Rattle.statement.specs.Facts.{core_of}
-use Rattle.statement.specs.Histories.{Call, byte_in, pin_at, tick_in, ticks_in, report_after, after, Event, event_of, trace, Every}
+use Rattle.statement.specs.Histories.{Call, byte_in, pin_at, tick_in, ticks_in, report_after, after, event_of, trace, Every}
 use Rattle.statement.specs.Histories.{single_ticks}
 use Rattle.statement.specs.Many.{sum_of, MadeOf, AddsUp}
 use Rattle.statement.specs.Outcomes as out

@@ -37,7 +37,6 @@ pub use Rattle.pump.specs.Reports.{Outcome}
 use Rattle.pump.specs.declared.calls.Listened.{Listened}
 use Rattle.pump.specs.declared.device.Told.TheVariants as told
 use Rattle.pump.specs.declared.holder.Pump.{Pump}
-use Rattle.pump.specs.declared.reports.Report.{Report}
 use Rattle.statement.specs.Facts.{Sound, core_of, link_of, run_of}
 use Rattle.statement.specs.Histories.{Call, byte_in, pin_at, tick_in, ticks_in, report_after, buffer_before, buffer_behind, Event}
 

@@ -1,6 +1,5 @@
 -- `crc::check` meets its contract: the register so far, and what is left of the bytes, end as the check of all.
 -- Assumes nothing.
-use Prim.Native.Nat.{◌-◌}
 use native.Mathlib.Omega.{arith}
 use Rattle.crc.proofs.Slices.{passing}
 use Rattle.crc.proofs.check.Goals as goal

@@ -1,7 +1,6 @@
 -- `running` is safe and ends: it fills 41 places.
 -- Assumes nothing.
 use native.Mathlib.Omega.{arith}
-use Prim.Native.Nat.{◌-◌}
 use Rattle.test_tables.proofs.running.Goals as goal
 
 pub loop-n-init : goal.loop-n-init

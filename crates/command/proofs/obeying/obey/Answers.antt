@@ -1,6 +1,6 @@
 -- `obey` meets its contract.
 -- Assumes nothing.
-use mathlib.Core.Path.{◌≡◌, ◌∙◌, ap}
+use mathlib.Core.Path.{◌∙◌, ap}
 use Rattle.command.specs.Obeying.{answer}
 use Rattle.command.proofs.Deciding.{obeys_by}
 use Rattle.command.proofs.obeying.obey.Goals as goal

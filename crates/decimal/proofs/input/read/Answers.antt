@@ -1,6 +1,5 @@
 -- `read` meets its contract: its loop keeps `Scan`, and `scan` has a law for each way on and each way out, whose premises are the
 -- tests of the code on the way there. What is left of the text is the measure.
-use Prim.Native.Nat.{◌-◌}
 use native.Mathlib.Omega.{arith}
 use Rattle.decimal.proofs.Scan.{value_small, scan}
 use Rattle.decimal.proofs.input.read.Goals as goal

@@ -1,6 +1,5 @@
 -- `read_three` meets its contract: its loop keeps `Passed`, and `three_digits` has a law for each way on and each way out. What is left
 -- of the text is the measure.
-use Prim.Native.Nat.{◌-◌}
 use native.Mathlib.Omega.{arith}
 use Rattle.decimal.proofs.ThreeDigits.{value_small, three_digits}
 use Rattle.decimal.proofs.short.read_three.Goals as goal

@@ -2,7 +2,6 @@
 -- Assumes nothing.
 use Rattle.line.proofs.Collecting.{stands}
 use native.Mathlib.Omega.{arith}
-use Prim.Native.Nat.{◌-◌}
 use Rattle.line.proofs.lines.all_stand.Goals as goal
 
 pub loop-i-init : goal.loop-i-init

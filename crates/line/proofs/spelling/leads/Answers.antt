@@ -2,7 +2,6 @@
 -- Assumes nothing.
 use Rattle.line.proofs.Leading.{matching}
 use native.Mathlib.Omega.{arith}
-use Prim.Native.Nat.{◌-◌}
 use Rattle.line.proofs.spelling.leads.Goals as goal
 
 pub returns-then-s-word : goal.returns-then-s-word

@@ -1,6 +1,5 @@
 -- `Loops::closed_to` meets its contract.
 -- Assumes nothing.
-use lib.ListN.{length-map}
 use Rattle.loops.proofs.Places.{closed_holds}
 use Rattle.loops.proofs.Loops.closed_to.Goals as goal
 

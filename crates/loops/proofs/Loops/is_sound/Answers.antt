@@ -1,6 +1,5 @@
 -- `Loops::is_sound` meets its contract: where no loop is open nothing is asked.
 -- Assumes nothing.
-use lib.ListN.{length-map}
 use Rattle.loops.specs.Loops.{is_sound_loops}
 use Rattle.loops.proofs.Places.{none_sound, sound_at}
 use Rattle.loops.proofs.Loops.is_sound.Goals as goal

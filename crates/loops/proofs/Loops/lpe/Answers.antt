@@ -1,7 +1,6 @@
 -- `Loops::lpe` meets its contract.
 -- Assumes nothing.
 use native.Mathlib.Omega.{arith}
-use lib.ListN.{length-map}
 use Rattle.loops.specs.Loops.{lpe}
 use Rattle.loops.proofs.Places.{older_first, older_small}
 use Rattle.loops.proofs.Loops.lpe.Goals as goal

@@ -1,6 +1,5 @@
 -- `Loops::newest` meets its contract.
 -- Assumes nothing.
-use lib.ListN.{length-map}
 use Rattle.loops.specs.Loops.{newest}
 use Rattle.loops.proofs.Places.{older_small, newest_at}
 use Rattle.loops.proofs.Loops.newest.Goals as goal

@@ -1,6 +1,5 @@
 -- `Loops::older` meets its contract.
 -- Assumes nothing.
-use lib.ListN.{length-map}
 use mathlib.Core.Path.{sym, ◌∙◌}
 use borrow.Author.Tests.{le-leb, lt-leb}
 use Rattle.loops.proofs.Places.{older_at}

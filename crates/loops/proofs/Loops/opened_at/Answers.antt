@@ -1,6 +1,5 @@
 -- `Loops::opened_at` meets its contract.
 -- Assumes nothing.
-use lib.ListN.{length-map}
 use Rattle.loops.proofs.Places.{behind_holds}
 use Rattle.loops.proofs.Loops.opened_at.Goals as goal
 

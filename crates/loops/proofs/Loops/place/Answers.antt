@@ -1,6 +1,5 @@
 -- `Loops::place` meets its contract.
 -- Assumes nothing.
-use lib.ListN.{length-map}
 use mathlib.Core.Path.{sym, ◌∙◌}
 use borrow.Author.Tests.{lt-ltb, le-ltb}
 use Rattle.loops.proofs.Places.{place_at}

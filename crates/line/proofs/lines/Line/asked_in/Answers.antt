@@ -1,7 +1,7 @@
 -- `Line::asked_in` meets its contract: an over-long line is malformed, any other asks for what its kept characters ask for.
 -- Assumes nothing.
 use Rattle.line.proofs.Requesting.{overlong_asked, asked_kept}
-use lib.ListN.{length, length-take, length-map}
+use lib.ListN.{length, length-take}
 use mathlib.Core.Path.{◌≡◌}
 use native.Mathlib.Omega.{arith}
 use Rattle.line.proofs.lines.Line.asked_in.Goals as goal

@@ -1,6 +1,5 @@
 -- `Bench::feed` meets its contract: after i turns the bench and the buffer are those of i bytes.
 -- Assumes nothing.
-use Prim.Native.Nat.{◌-◌}
 use mathlib.Core.Path.{sym, ◌∙◌}
 use native.Mathlib.Omega.{arith}
 use Rattle.player.proofs.Playing.{feeding_none, feeding_act, feeding_wait, feeding_as, byte_more, room_more, feeding_ends}

@@ -1,6 +1,5 @@
 -- `Pump::renew` meets its contract: after n turns the first n phases are those of power-up.
 -- Assumes nothing.
-use Prim.Native.Nat.{◌-◌}
 use native.Mathlib.Omega.{arith}
 use Rattle.pump.proofs.Renewing.{renewing_none, renewing_more, renewing_all}
 use Rattle.pump.proofs.holder.Pump.renew.Goals as goal

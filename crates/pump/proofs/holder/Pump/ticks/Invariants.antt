@@ -6,7 +6,7 @@ use mathlib.Core.Path.{◌≡◌}
 use lib.Dec.{eqb}
 use Rattle.pump.specs.Holder.{model_phases, phase_at, is_sound_pump}
 use Rattle.pump.proofs.Phases.{Tested}
-use Rattle.pump.proofs.Running.{Ran, Calm, allowed}
+use Rattle.pump.proofs.Running.{Ran, Calm}
 use Rattle.pump.proofs.holder.Pump.ticks.Given as goal
 
 abbrev pub invariant-loop-i : goal.invariant-loop-i

@@ -1,31 +1,40 @@
 // The bench program (document 01, Marked figures, last part): reads items from standard input, one a line, plays them to a pump
 // that was just switched on, and prints what comes of them. It is a filter: what a part of the input has to say is written before
-// more is read, and of the input no more is kept than where in a line it stands.
+// more is read, and of the input no more is kept than where in a line it stands. A read or a write that fails ends it with that error.
 //
 // What the items do and print is the crate `player`; here it is read and written.
 #![tactic(auto)]
 
-ghost use Rattle.std.specs.Prelude.{◌≡◌};
-ghost use Rattle.player.specs.Scripts.{play};
+ghost use Rattle.std.specs.Prelude.{◌≡◌, ◌-◌, ◌^◌, ◌<◌, length, IfOk, OnOk, IfSome};
+ghost use Rattle.std.specs.Io.KnownBytes.{Appends};
+ghost use Rattle.player.specs.Scripts.{play, says, closed, script};
+ghost use Rattle.bench.specs.Serving.{Serves};
 
-use libc::{STDIN_FILENO, STDOUT_FILENO};
 use player::{Bench, Fed};
+use std::io;
+use std::io::{Read, Write};
 
-fn main() {
+fn main(rt: HostRuntime) -> io::Result<()> {
+    run(&mut rt.stdin(), &mut rt.stdout())
+}
+
+// All of the input. Nothing says that an input ends: a count of its reads does, and no input takes that many.
+fn run<R: Read, W: Write>(input: &mut R, output: &mut W) -> io::Result<()>
+    ensures { OnOk result (IfSome (R.remaining input.old)
+        (λ s. length s < 2 ^ 64 - 1 → Appends (W.contents output.old) (W.contents output.new) (script s))) }
+{
     let mut bench = Bench::new();
-    // Nothing says that an input ends: a number that falls does, and no input takes that many reads.
-    let mut reads: u64 = 18_446_744_073_709_551_615;
-    while 0 < reads {
-        let served = serve(bench);
+    for _ in 0..u64::MAX {
+        let served = serve(bench, input, output)?;
         bench = served.bench;
-        reads -= 1;
         if served.ended {
             break;
         }
     }
-    close(bench);
+    close(bench, output)
 }
 
+// The bench after a read, and whether the input has ended.
 #[derive(Clone, Copy)]
 struct Served {
     bench: Bench,
@@ -33,18 +42,24 @@ struct Served {
 }
 
 // One read, however little it brings, and all that it has to say.
-fn serve(bench: Bench) -> Served {
-    let mut space = io::large_buffer();
-    let n = io::count(libc::read(STDIN_FILENO, &mut space), &space);
-    Served {
-        bench: play(bench, &space[..n]),
+fn serve<R: Read, W: Write>(bench: Bench, input: &mut R, output: &mut W) -> io::Result<Served>
+    ensures { IfOk result (Serves bench (R.remaining input.old) (R.remaining input.new)
+        (W.contents output.old) (W.contents output.new)) }
+{
+    let mut space = [0u8; 65_536];
+    let n = input.read(&mut space)?;
+    let bench = play(bench, &space[..n], output)?;
+    output.flush()?;
+    Ok(Served {
+        bench: bench,
         ended: n == 0,
-    }
+    })
 }
 
 // What `s` has to say, in writes as large as the buffer allows.
-fn play(bench: Bench, s: &[u8]) -> Bench
-    ensures { result ≡ play bench s.now }
+fn play<W: Write>(bench: Bench, s: &[u8], output: &mut W) -> io::Result<Bench>
+    ensures bench { IfOk result (λ b. b ≡ play bench s.now) }
+    ensures output { OnOk result (Appends (W.contents output.old) (W.contents output.new) (says bench s.now)) }
 {
     let mut fed = Fed {
         bench: bench,
@@ -52,19 +67,22 @@ fn play(bench: Bench, s: &[u8]) -> Bench
         end: 0,
     };
     let mut from = 0;
-    let mut out = io::large_buffer();
+    let mut out = [0u8; 65_536];
     while from < s.len() {
         fed = fed.bench.feed(&s[from..], &mut out);
         let end = fed.end;
-        io::write_all(STDOUT_FILENO, &out[..end]);
+        output.write_all(&out[..end])?;
         from += fed.taken;
     }
-    fed.bench
+    Ok(fed.bench)
 }
 
 // The end of the input.
-fn close(bench: Bench) {
-    let mut out = io::large_buffer();
+fn close<W: Write>(bench: Bench, output: &mut W) -> io::Result<()>
+    ensures { OnOk result (Appends (W.contents output.old) (W.contents output.new) (closed bench)) }
+{
+    let mut out = [0u8; 65_536];
     let end = bench.closed(&mut out);
-    io::write_all(STDOUT_FILENO, &out[..end]);
+    output.write_all(&out[..end])?;
+    output.flush()
 }

@@ -453,7 +453,7 @@ works_visit p b k runs v at =
         → (run_of p).rate ≡ rate
         → Usable (core_of p).syringe rate
         → Works (worked (core_of p) way (work_at (run_of p) (core_of p).ledger (core_of p).syringe way v rate))
-    by_doing nothing is same rate e use-of = absurd same
+    by_doing nothing is same _ e use-of = absurd same
     by_doing (visiting w) is same NoRate e use-of = absurd use-of
     by_doing (visiting w) is same (Current unit r) e use-of =
         subst Works (worked_is p way (give_steps (run_of p) (core_of p).ledger (core_of p).syringe way v (hourly_rate r unit)))

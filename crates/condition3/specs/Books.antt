@@ -6,9 +6,8 @@
 --     phases, at that place                          FUN, VOL, DIR; the stored rate RAT, asked for when the pump is not operating
 --     device.link, the time limit                    SAF            (0 in Basic mode)
 -- What no query shows he keeps himself, by the document's sentences, said a second time: an engine wrong in definition and code is caught.
-use Rattle.std.specs.Prelude.{if◌then◌else◌}
-use Rattle.condition3.specs.Terms.{ℕ, ◌+◌, ◌-◌, ◌*◌, ◌/◌, ◌%◌, min, Bool, true, false, not, ◌&&◌, ◌||◌, leb, ltb, eqb, List, [], ◌∷◌}
-use Rattle.condition3.specs.Terms.{◌++◌, length, take, letter, text, leads, is_text, Direction, Infuse, Withdraw}
+use Rattle.std.specs.Prelude.{if◌then◌else◌, ℕ, ◌+◌, ◌-◌, ◌*◌, ◌/◌, ◌%◌, min, Bool, true, false, not, ◌&&◌, ◌||◌, leb, ltb, eqb, List, [], ◌∷◌, ◌++◌, length, take}
+use Rattle.condition3.specs.Terms.{letter, text, leads, is_text, Direction, Infuse, Withdraw}
 use Rattle.condition3.specs.Terms.{Um, Mm, Uh, Mh, Rate, NoRate, Current, Phase, number, datum, Loop, Pump, here_of, status_run}
 pub use Rattle.condition3.specs.Wire.{Packet, outside, inside, has_all, packet_by, packet_data, data_in, past_digit}
 use Rattle.condition3.specs.Terms.{status_letter, limit_of, refusal_number, characters, Call, byte_in, pin_at, tick_in, ticks_in, Event}

@@ -1,7 +1,6 @@
 -- Condition 3 of the observer's books (specs/Books.antt): what is claimed of each event with the books before it, of visits and loops,
 -- and the record, a field for each sentence. The theorem is condition3 (proofs/Theorem.antt), tick by tick, for a pump of 1 to 99 phases.
-use Rattle.std.specs.Prelude.{if◌then◌else◌}
-use Rattle.condition3.specs.Terms.{ℕ, ◌+◌, ◌*◌, ◌≤◌, ◌<◌, ◌≡◌, true, false, leb, List, [], ◌∷◌, reverse, length, get_or}
+use Rattle.std.specs.Prelude.{if◌then◌else◌, ℕ, ◌+◌, ◌*◌, ◌≤◌, ◌<◌, ◌≡◌, true, false, leb, List, [], ◌∷◌, reverse, length, get_or}
 use Rattle.condition3.specs.Terms.{Direction, Infuse, Withdraw, datum, text, is_text, Loop, Pump, loops_of, Event, Every}
 use Rattle.condition3.specs.Books.{Visit, View, view_of, kind_of, moves, later, stops, told, of_way, stored_in, is_usable_at, is_whole}
 use Rattle.condition3.specs.Books.{still_open, newest_loop, is_last, Books, visiting, Deed, other, enters, works, deed, doing_by, ruled_by}

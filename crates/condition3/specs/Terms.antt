@@ -1,7 +1,6 @@
--- The names that the books and condition 3 take from elsewhere, passed on: numbers, tests and lists of the library, texts, and the types
+-- The names that the books and condition 3 take from elsewhere, passed on: texts, and the types
 -- that the code declares. No definition of the engine's rules is among them but the status, which every answer shows, and the
 -- time limit, which SAF shows.
-pub use Rattle.std.specs.Prelude.{ℕ, ◌+◌, ◌-◌, ◌*◌, ◌/◌, ◌%◌, ◌≤◌, ◌<◌, min, ◌≡◌, Bool, true, false, not, ◌&&◌, ◌||◌, List, [], ◌∷◌, ◌++◌, reverse, leb, ltb, eqb, length, take, drop, get_or, if◌then◌else◌}
 pub use Rattle.base.specs.Text.{letter, text}
 pub use Rattle.drive.specs.declared.directions.Direction.{Direction}
 pub use Rattle.drive.specs.declared.directions.Direction.TheVariants.{Infuse, Withdraw}

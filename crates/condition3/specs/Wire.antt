@@ -1,7 +1,6 @@
 -- What bytes are to the observer: a packet with its bytes since STX, the data in it and in an answer, and what stands behind an address.
 -- (01, Line and answer; 02, 2/12)
-use Rattle.std.specs.Prelude.{if◌then◌else◌}
-use Rattle.condition3.specs.Terms.{ℕ, ◌-◌, Bool, true, false, ◌&&◌, ◌||◌, leb, eqb, List, [], ◌∷◌, ◌++◌, length, take, drop}
+use Rattle.std.specs.Prelude.{if◌then◌else◌, ℕ, ◌-◌, Bool, true, false, ◌&&◌, ◌||◌, leb, eqb, List, [], ◌∷◌, ◌++◌, length, take, drop}
 
 -- ---- the packet under way: STX, 2, begins one, and other bytes outside are ignored; it is over where it is answered, wrong, or good and
 -- ours; and where as many bytes as its first one says came since STX, good, to another address

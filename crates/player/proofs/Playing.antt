@@ -64,7 +64,7 @@ unfolding play
 played_append w [] t = refl
 played_append w (b ∷ s) t = played_append (bench_after w b) s t
 
-says_append : (w : Bench) (s t : List ℕ) → says w (s ++ t) ≡ says w s ++ says (play w s) t
+pub says_append : (w : Bench) (s t : List ℕ) → says w (s ++ t) ≡ says w s ++ says (play w s) t
 unfolding play says
 says_append w [] t = refl
 says_append w (b ∷ s) t =

@@ -1,5 +1,6 @@
 // Shows what the crates below the rules (decimal, drive, words, line, answer) make of texts and figures: reads items from standard input,
-// one a line, and prints a line for each. Its output is held to the stored one; it is proved safe and promises no more.
+// one a line, and prints a line for each. A read or a write that fails ends it with that error. Its output is held to the stored one; it is
+// proved safe and promises no more.
 //
 //   # ..                 a heading: shown as it is
 //   > text               a line that was sent: what it asks for, said as an answer; nothing where it has another address
@@ -11,14 +12,32 @@
 //   anything else        !
 #![tactic(auto)]
 
+ghost use Rattle.std.specs.Prelude.{◌≤◌, length, IfOk};
+
 mod items;
 mod numbers;
 mod show;
 
-use libc::STDIN_FILENO;
+use std::io;
+use std::io::Read;
 
-fn main() {
-    let mut space = io::large_buffer();
-    let n = io::read_full(STDIN_FILENO, &mut space);
-    items::all(&space[..n]);
+fn main(rt: HostRuntime) -> io::Result<()> {
+    let mut space = [0u8; 65_536];
+    let n = read_full(&mut rt.stdin(), &mut space)?;
+    items::all(&space[..n], &mut rt.stdout())
+}
+
+// Reads until `space` is full or the input ends, and tells how many bytes came.
+fn read_full(input: &mut impl Read, space: &mut [u8]) -> io::Result<usize>
+    ensures { IfOk result (λ n. n ≤ length space.new) }
+{
+    let mut done = 0;
+    while done < space.len() {
+        let n = input.read(&mut space[done..])?;
+        if n == 0 {
+            break;
+        }
+        done += n;
+    }
+    Ok(done)
 }

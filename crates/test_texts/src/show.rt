@@ -1,35 +1,40 @@
 // What a line asks for, said as the answer that the query of the same name would get.
 use answer::Frame;
 use drive::VolumeUnit;
-use libc::STDOUT_FILENO;
 use line::Line;
+use std::io;
+use std::io::Write;
 use words::{Command, Reply, Said, Status, Units};
 
 // > text: the bytes are sent one by one, and a return. Another address shows nothing.
-pub fn line(s: &[u8]) {
+pub fn line(s: &[u8], out: &mut impl Write) -> io::Result<()> {
     let mut line = Line::empty();
-    let mut i = 0;
-    while i < s.len() {
-        let b = s[i];
-        i += 1;
-        let next = line.after_byte(b);
+    for b in s {
+        let next = line.after_byte(*b);
         line = next.line;
     }
     if line.address_in() == 0 {
-        reply(echo(line.command_in()));
+        reply(echo(line.command_in()), out)?;
     }
+    Ok(())
 }
 
 // The answer's text, without STX and ETX.
-fn reply(r: Reply) {
-    let mut out = [0u8; 24];
-    let n = answer::write(Frame::Line, 0, Said::Answer(Status::Stopped, r), &mut out);
+fn reply(r: Reply, out: &mut impl Write) -> io::Result<()> {
+    let mut framed = [0u8; 24];
+    let n = answer::write(
+        Frame::Line,
+        0,
+        Said::Answer(Status::Stopped, r),
+        &mut framed,
+    );
     if 2 <= n {
         if n <= 24 {
             let end = n - 1;
-            io::write_all(STDOUT_FILENO, &out[1..end]);
+            out.write_all(&framed[1..end])?;
         }
     }
+    Ok(())
 }
 
 // A setting as its query would give it back at 10 mm, DIA and FUN where their data are in range; RUN n and CLD as their data, DIS
@@ -73,13 +78,9 @@ fn echo(c: Command) -> Reply {
     }
 }
 
-pub fn volume_unit(unit: VolumeUnit) {
+pub fn volume_unit(unit: VolumeUnit, out: &mut impl Write) -> io::Result<()> {
     match unit {
-        VolumeUnit::Microlitre => {
-            io::write_all(STDOUT_FILENO, b" UL");
-        }
-        VolumeUnit::Millilitre => {
-            io::write_all(STDOUT_FILENO, b" ML");
-        }
+        VolumeUnit::Microlitre => out.write_all(b" UL"),
+        VolumeUnit::Millilitre => out.write_all(b" ML"),
     }
 }

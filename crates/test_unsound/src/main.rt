@@ -19,16 +19,19 @@ mod ranges;
 mod show;
 mod states;
 
-fn main() {
-    ranges::fields();
-    ranges::data();
-    ranges::lines();
-    ranges::numbers();
-    programs::loops();
-    programs::visits();
-    programs::pauses();
-    programs::stops();
-    links::limits();
-    links::lines();
-    links::packets();
+use std::io;
+
+fn main(rt: HostRuntime) -> io::Result<()> {
+    let mut output = rt.stdout();
+    ranges::fields(&mut output)?;
+    ranges::data(&mut output)?;
+    ranges::lines(&mut output)?;
+    ranges::numbers(&mut output)?;
+    programs::loops(&mut output)?;
+    programs::visits(&mut output)?;
+    programs::pauses(&mut output)?;
+    programs::stops(&mut output)?;
+    links::limits(&mut output)?;
+    links::lines(&mut output)?;
+    links::packets(&mut output)
 }

@@ -1,47 +1,44 @@
 // A case's line: its name, and the refusals of its ten calls.
-use libc::STDOUT_FILENO;
 use pump::{Pump, Report};
+use std::io;
+use std::io::Write;
 
 // A clause, in the document's words.
-pub fn clause(text: &[u8]) {
-    put(b"# ");
-    put(text);
-    put(b"\n");
+pub fn clause(text: &[u8], output: &mut impl Write) -> io::Result<()> {
+    output.write_all(b"# ")?;
+    output.write_all(text)?;
+    output.write_all(b"\n")
 }
 
-pub fn show(name: &[u8], pump: Pump) {
+pub fn show(name: &[u8], pump: Pump, output: &mut impl Write) -> io::Result<()> {
     let mut room = [0u8; 24];
     let mut short = [0u8; 23];
-    put(name);
-    put(b":");
-    shown(pump.tick(&mut room));
-    edge(pump, 2, 0);
-    heard(pump, &mut room);
-    edge(pump, 9, 7);
-    edge(pump, 2, 7);
-    heard(pump, &mut short);
-    shown(pump.ticks(1_000, &mut room));
-    shown(pump.ticks(1_000_001, &mut room));
-    shown(pump.tick(&mut short));
-    shown(pump.ticks(1_000_001, &mut short));
-    put(b"\n");
+    output.write_all(name)?;
+    output.write_all(b":")?;
+    shown(pump.tick(&mut room), output)?;
+    edge(pump, 2, 0, output)?;
+    heard(pump, &mut room, output)?;
+    edge(pump, 9, 7, output)?;
+    edge(pump, 2, 7, output)?;
+    heard(pump, &mut short, output)?;
+    shown(pump.ticks(1_000, &mut room), output)?;
+    shown(pump.ticks(1_000_001, &mut room), output)?;
+    shown(pump.tick(&mut short), output)?;
+    shown(pump.ticks(1_000_001, &mut short), output)?;
+    output.write_all(b"\n")
 }
 
-fn edge(pump: Pump, pin: u8, level: u8) {
-    shown(pump.pin(pin, level));
+fn edge(pump: Pump, pin: u8, level: u8, output: &mut impl Write) -> io::Result<()> {
+    shown(pump.pin(pin, level), output)
 }
 
 // A return, with a buffer for its answer.
-fn heard(pump: Pump, out: &mut [u8]) {
-    shown(pump.byte(13, out));
+fn heard(pump: Pump, out: &mut [u8], output: &mut impl Write) -> io::Result<()> {
+    shown(pump.byte(13, out), output)
 }
 
-fn shown(report: Report) {
+fn shown(report: Report, output: &mut impl Write) -> io::Result<()> {
     let refusal = report.refusal;
-    put(b" ");
-    io::print_decimal(STDOUT_FILENO, refusal.number() as u64);
-}
-
-fn put(text: &[u8]) {
-    io::write_all(STDOUT_FILENO, text);
+    let number = refusal.number();
+    write!(output, " {number}")
 }

@@ -1,0 +1,2 @@
+-- What a read of the input comes to.
+pub mod Serving

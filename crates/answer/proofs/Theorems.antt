@@ -1,6 +1,6 @@
 -- What a caller may rely on, whatever the frame, the address, what is said, and the buffer:
---     answer-longest, answer-length    an answer has at most 19 bytes, as a packet 22, and so fits every buffer that takes one
---     answer-least, alarm-length       an answer has at least 5; an alarm 7, as a packet 10
+--     answer_longest, answer_length    an answer has at most 19 bytes, as a packet 22, and so fits every buffer that takes one
+--     answer_least, alarm_length       an answer has at least 5; an alarm 7, as a packet 10
 --     written_then_kept    a buffer with room holds the answer, and behind it what stood there
 --     length_kept          no buffer changes its length
 --     short_untouched      a buffer without room is left as it is, and the told length is 0

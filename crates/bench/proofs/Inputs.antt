@@ -18,8 +18,8 @@ use Rattle.bench.proofs.Known.{appends_none, appends_then}
 pub part_written : {l m : List ℕ} {j : ℕ} {v : List ℕ} → Wrote l m 0 j v → take j m ≡ v
 part_written {l} {m} {j} {v} w = ap (λ (t : List ℕ). take j t) w.holds ∙ take_at v (drop j l) j (omega arith)
 
-pub part_length : {l m : List ℕ} {j : ℕ} {v : List ℕ} → Wrote l m 0 j v → j ≡ length (take j m)
-part_length w = simp length-take (omega (arith, wrote_length w, w.fits))
+pub written_length : {l m : List ℕ} {j : ℕ} {v : List ℕ} → Wrote l m 0 j v → j ≡ length (take j m)
+written_length w = simp length-take (omega (arith, wrote_length w, w.fits))
 
 -- ---- a part of the input was played: the rest is played from there
 module _ (s : List ℕ) (from : ℕ) where
@@ -30,8 +30,8 @@ module _ (s : List ℕ) (from : ℕ) where
   part_rest : part ≡ drop from s
   part_rest = take_all (length s - from) (drop from s) (simp length-drop (omega arith))
 
-  pub rest_length : from ≤ length s → length part ≡ length s - from
-  rest_length h = ap length part_rest ∙ length-drop from s
+  pub part_length : from ≤ length s → length part ≡ length s - from
+  part_length h = ap length part_rest ∙ length-drop from s
 
 -- ---- the input up to a place was played, and what it prints was written; the rest is played from there
 pub record Plays (s : List ℕ) (w now : Bench) (from : ℕ) (out : List ℕ) (had has : Option (List ℕ)) : Type 0 where
@@ -63,14 +63,14 @@ module _ {s : List ℕ} {w now : Bench} {from : ℕ} {out : List ℕ} {had has :
 
   module _ {after : List ℕ} {r : Fed} (f : Feeds now (part s from) out after r) where
     within_rest : from + r.taken ≤ length s
-    within_rest = omega (arith, p.within, f.within, rest_length s from p.within)
+    within_rest = omega (arith, p.within, f.within, part_length s from p.within)
 
     pub plays_fits : from + r.taken < 18_446_744_073_709_551_616
     plays_fits = omega (arith, within_rest, p.short)
 
     pub plays_less : from < length s → length s - (from + r.taken) < length s - from
     plays_less h =
-        let l = rest_length s from p.within in
+        let l = part_length s from p.within in
         let some : 0 < r.taken = f.some (omega arith) in
         omega arith
 

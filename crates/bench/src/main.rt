@@ -2,7 +2,8 @@
 // that was just switched on, and prints what comes of them. It is a filter: what a part of the input has to say is written before
 // more is read, and of the input no more is kept than where in a line it stands. A read or a write that fails ends it with that error.
 //
-// What the items do and print is the crate `player`; here it is read and written.
+// What the items do and print is the crate `player`; here it is read and written. No function here fails but by a read or a write; the
+// bench that it was handed is then gone, and nothing is known of what the writer holds more, since std says nothing of it.
 #![tactic(auto)]
 
 ghost use Rattle.std.specs.Prelude.{◌≡◌, ◌-◌, ◌^◌, ◌<◌, length, IfOk, OnOk, IfSome};

@@ -1,6 +1,6 @@
 -- The observer reads a line or a packet's data as the engine does: he drops up to two leading digits of the characters and compares texts
 -- (Books), the engine parses them, of a line the first 40 (asked_in, asked_of). Of every text:
---     line-agrees, data-agree   the two agree on it (Agree), and so
+--     line_agrees, data_agree   the two agree on it (Agree), and so
 --     clears_as_asked   what he takes for a clearing of a direction's total is what asks the engine to clear it
 --     starts_as_asked   what he takes for RUN with a phase is that, or the text is malformed, and so not obeyed
 --     reset_as_asked    what asks the engine for *RESET he takes for it

@@ -1,6 +1,6 @@
 -- What the pump stores of the program under way, and no query shows, is what the observer has in his books: the visit's time store, its
 -- target and its count of steps, the open loops, the trap, pin 4, the line, the packet under way, the totals. That it is so after any
--- calls is a theorem (proofs/Theorem.antt, stored-as-booked), with which condition 3 is proved.
+-- calls is a theorem (proofs/Theorem.antt, stored_as_booked), with which condition 3 is proved.
 use Rattle.std.specs.Prelude.{ℕ, ◌/◌, ◌<◌, ◌≡◌, Bool, true, false, List, reverse}
 use Rattle.drive.specs.declared.directions.Direction.{Direction}
 use Rattle.dispense.specs.Ledgers.{total_of}

@@ -75,7 +75,7 @@ module _ (s : List ℕ) (v i : ℕ) (c : Passed s v i) where
       let value : number_from 0 s ≡ v = sym c.number ∙ ap (number_from v) end in
       sym (simp (whole, value, le-leb 1 (length s) c.some, le-leb (length s) 3 c.few))
 
--- what `read_three` answers its needs with
+-- what `read_three` answers its goals with
 pub ruleset three_digits = (
   none_passed,
   no_byte,

@@ -2,12 +2,12 @@
 --     collected        whatever bytes but the return come, a line holds the first 40 of their characters, and is over-long if
 --                      there are more
 --     empty_sound      the empty line is sound
---     byte_sound       a sound line is sound after any byte; places-kept: it keeps its 40 places
+--     byte_sound       a sound line is sound after any byte; places_kept: it keeps its 40 places
 --     asked_sendable   what a line asks for can be sent: its numbers are writable, its short data have two digits at the most
---     request-sendable, limit-short    so can a command that a text asks the pump for; a limit has three digits at the most
---     line-sendable, line-limit-short  the same of a line, over-long or not
+--     request_sendable, limit_short    so can a command that a text asks the pump for; a limit has three digits at the most
+--     line_sendable, line_limit_short  the same of a line, over-long or not
 --     asked_text       a line that is not over-long asks for what its characters ask for
--- That a name which leads a text is its name stands in Naming (name-is) and Calling (called-is), that what is printed reads back
+-- That a name which leads a text is its name stands in Naming (name_is) and Calling (called_is), that what is printed reads back
 -- in ReadBack.
 -- Assumes nothing.
 use Rattle.std.specs.Prelude.{if◌then◌else◌}

@@ -29,7 +29,7 @@ abbrev pub name_among : List Name → List ℕ → Name
 name_among [] s = Unknown
 name_among (n ∷ ns) s = if leads (letters_of n) s then n else name_among ns s
 
--- the eleven names: none leads another, so that their order does not matter (proofs/Naming.antt, name-is)
+-- the eleven names: none leads another, so that their order does not matter (proofs/Naming.antt, name_is)
 abbrev pub names : List Name
 names = Dia ∷ Rat ∷ Vol ∷ Dir ∷ Phn ∷ Fun ∷ Run ∷ Stp ∷ Dis ∷ Cld ∷ Reset ∷ []
 

@@ -1,5 +1,5 @@
 -- What a command that some line asks for can hold: its numbers can be written, its short data have at most two digits. Whoever
--- obeys a command may rely on it (proofs/Theorems.antt, asked-sendable).   (01, Numbers; Commands)
+-- obeys a command may rely on it (proofs/Theorems.antt, asked_sendable).   (01, Numbers; Commands)
 use Rattle.std.specs.Prelude.{◌≤◌, ◌≡◌, true}
 use Rattle.decimal.specs.Writable.{is_writable}
 use Rattle.words.specs.Commands.{amount, short_datum}

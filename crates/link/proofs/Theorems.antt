@@ -1,15 +1,15 @@
 -- What the link is worth, of every history of bytes and ticks.
 -- The mode and the limit: bytes and ticks change neither.
---     ticks-safe, ticks-limit, after-safe, after-limit; ticks-basic, after-basic: in Basic mode nothing changes at all
+--     ticks_safe, ticks_limit, after_safe, after_limit; ticks_basic, after_basic: in Basic mode nothing changes at all
 -- The time limit:
 --     ticks_left_lem            each tick takes one from what is left, down to 0
 --     alarm_due             after SAF n alarm T comes with the 1,000 n-th tick, and with no other
---     alarm_after_good      so it does after a good packet; good-restarts
+--     alarm_after_good      so it does after a good packet; good_restarts
 --     wrong_keeps           `?COM` restarts nothing, nor does a byte that tells nothing
 -- Bytes:
 --     outside_ignored       outside a packet every byte but STX leaves the link as it was
---     good-safe, good-few   a good packet comes in Safe mode alone, and has at most forty data
---     good_cleared          with its data read, the link is as SAF n left it; wrong-fresh: of a wrong one nothing is left
+--     good_safe, good_few   a good packet comes in Safe mode alone, and has at most forty data
+--     good_cleared          with its data read, the link is as SAF n left it; wrong_fresh: of a wrong one nothing is left
 -- Assumes nothing.
 use Prim.Native.Nat.{ℕ, zero, suc, ◌+◌, ◌-◌, ◌*◌, ◌≤◌, ◌<◌}
 use mathlib.Core.Path.{◌≡◌, refl, sym, ap, ap₂, subst, ◌∙◌}

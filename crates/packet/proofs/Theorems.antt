@@ -1,19 +1,19 @@
 -- What packets, receiver and sender are together. A stream's meaning is `reading` (specs/Streams.antt), a receiver's answers to its bytes
 -- are `answers` (specs/Follows.antt). `Sound` is kept by every call:
---     fresh-sound, bytes-sound, quiet-sound, and sound-iff: what the test says
+--     fresh_sound, bytes_sound, quiet_sound, and sound_iff: what the test says
 -- The receiver follows the stream, whatever comes:
 --     follows_stream        its answers are the stream's meaning, and it stands where the stream leads
 -- What a stream means:
 --     good_packet           a packet gives its data at its last byte and nothing before
 --     ignored               bytes outside a packet, none of them STX, tell nothing and change nothing
---     byte-ignored, unchanged    the receiver's words for it
---     wrong-length, wrong-check, wrong-etx
+--     byte_ignored, unchanged    the receiver's words for it
+--     wrong_length, wrong_check, wrong_etx
 --     damaged               a packet damaged behind its length, in a way that the check finds, is wrong at its second check byte
---     damaged_whole         the same with its ETX: one wrong and nothing more; damaged-never-good
---     good_only             a stream that tells of a good packet holds it; good-at-its-end: it is told at the packet's last byte
+--     damaged_whole         the same with its ETX: one wrong and nothing more; damaged_never_good
+--     good_only             a stream that tells of a good packet holds it; good_at_its_end: it is told at the packet's last byte
 -- Quiet:
 --     follows_timed         bytes with pauses between them: the receiver's answers are the timed stream's meaning
---     quiet-499, quiet-500, quiet_sum
+--     quiet_499, quiet_500, quiet_sum
 -- Both ends:
 --     round_trip            what the sender writes, the receiver takes
 -- Assumes nothing.

@@ -1,6 +1,6 @@
 -- From power-up on, whatever calls come, for each number of phases that a model may have:
 --     phases_after    there are as many phases as there were, whatever their number
---     whole_after     the state is whole; sound-after: so it is sound
+--     whole_after     the state is whole; sound_after: so it is sound
 --     never_unsound   and no call is refused with 4, because it is not sound
 -- Assumes nothing.
 use Rattle.std.specs.Prelude.{if◌then◌else◌}

@@ -1,5 +1,5 @@
 -- When a state is sound, said without a test: the clauses of document 01's sentence, a fact each, in its order. That the test which the
--- calls run says just this is a theorem (proofs/Soundness.antt, sound-iff). Some clauses hold by the types of the state, and have no
+-- calls run says just this is a theorem (proofs/Soundness.antt, sound_iff). Some clauses hold by the types of the state, and have no
 -- field here: the store is 0 outside a visit, at most one of visit, timed pause and trigger wait is under way, and an alarm is pending
 -- only in a stopped pump; in Basic mode there is neither a timer nor a part packet, a limit is at most 255, a part packet has a length of
 -- 4 to 44, fewer bytes than that, and its check right once both check bytes are in.   (01, Calls; Numbers; Volumes; 02, 2/12)

@@ -1,5 +1,5 @@
 -- What a call of many ticks reports is what its single ticks report one by one. Said of every event: a call of any other kind is one event.
--- That it is so of every event of a history is a theorem (proofs/Many.antt, adds-up).   (02, 1/12)
+-- That it is so of every event of a history is a theorem (proofs/Many.antt, adds_up).   (02, 1/12)
 use Rattle.std.specs.Prelude.{ℕ, ◌+◌, ◌≡◌, List, [], ◌∷◌}
 use Rattle.pump.specs.declared.reports.Report.{Report}
 use Rattle.statement.specs.Facts.{core_of}

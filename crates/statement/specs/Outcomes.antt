@@ -1,5 +1,5 @@
 -- The outcome of every call as a relation between the given state, the arguments, the given buffer and what comes back. The call meets
--- it, and no second outcome does (proofs/Outcomes.antt, call-meets and outcome-unique).   (01, Calls; Line and answer; 02, 1/12, 2/12)
+-- it, and no second outcome does (proofs/Outcomes.antt, call_meets and outcome_unique).   (01, Calls; Line and answer; 02, 1/12, 2/12)
 use Rattle.std.specs.Prelude.{ℕ, suc, ◌+◌, ◌≤◌, ◌<◌, ◌≡◌, ◌⊎◌, Bool, true, false, List, [], ◌∷◌, length, get_or, take}
 use Rattle.words.specs.declared.answers.Alarm.{Alarm}
 use Rattle.words.specs.declared.answers.Alarm.TheVariants.{TimeOut}

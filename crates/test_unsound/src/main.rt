@@ -1,6 +1,6 @@
 // Shows the refusals by their numbers. Each line is a state: for each clause of document 01's sentence `A state is sound when ..`, in its
 // order, and of what document 02 adds to it, states that just meet it and states that break it. That the test which the calls run says
-// just these clauses is a theorem (statement, sound-iff), and so is what a refusal leaves alone; nothing that calls can do from power-up
+// just these clauses is a theorem (statement, sound_iff), and so is what a refusal leaves alone; nothing that calls can do from power-up
 // makes a state that is not sound, so that only a program like this shows one.
 //
 // A line has the refusals of ten calls: a tick; pin 2 at level 0; byte 13; pin 9 at level 7; pin 2 at level 7; byte 13 with a buffer of

@@ -135,7 +135,17 @@ plain_sound p n a e phases =
       first_four_fit phases p.function (rw (a) at none.1),
     )
 
--- ---- a phase's tests, one after the other
+-- ---- a phase's two tests, one after the other, where both numbers are tested in one (`decimal::are_writable`)
+module _ (phases : ℕ) (p : Phase) (numbers : Bool) (a : numbers ≡ (is_writable p.rate && is_writable p.volume)) where
+  pub numbers_unwritable : numbers ≡ false → false ≡ is_sound_phase phases p
+  unfolding is_sound_phase
+  numbers_unwritable e = sym (simp (sym a ∙ e))
+
+  pub function_decides : (datum : Bool) → numbers ≡ true → datum ≡ fits phases p.function → datum ≡ is_sound_phase phases p
+  unfolding is_sound_phase
+  function_decides datum e d = d ∙ sym (simp (sym a ∙ e))
+
+-- ---- a phase's three tests, one after the other
 module _ (phases : ℕ) (p : Phase) where
   module _ (rate : Bool) (a : rate ≡ is_writable p.rate) where
     pub rate_unwritable : rate ≡ false → false ≡ is_sound_phase phases p
@@ -147,8 +157,8 @@ module _ (phases : ℕ) (p : Phase) where
       unfolding is_sound_phase
       volume_unwritable h = sym (simp (sym a ∙ e, sym b ∙ h))
 
-      pub function_decides : (datum : Bool) → volume ≡ true → datum ≡ fits phases p.function → datum ≡ is_sound_phase phases p
+      pub datum_decides : (datum : Bool) → volume ≡ true → datum ≡ fits phases p.function → datum ≡ is_sound_phase phases p
       unfolding is_sound_phase
-      function_decides datum h d = d ∙ sym (simp (sym a ∙ e, sym b ∙ h))
+      datum_decides datum h d = d ∙ sym (simp (sym a ∙ e, sym b ∙ h))
 
-pub ruleset phase_tests = (rate_unwritable, volume_unwritable, function_decides)
+pub ruleset phase_tests = (rate_unwritable, volume_unwritable, datum_decides)

@@ -1,14 +1,14 @@
 -- `play` meets its contract: what is taken at each turn is played and written, and at least a byte is taken.
 -- Assumes nothing.
 use Rattle.std.proofs.Common.{arith}
-use Rattle.bench.proofs.Inputs.{part_length, plays_none, plays_fits, plays_less, plays_more, plays_all, told_all}
+use Rattle.bench.proofs.Inputs.{written_length, plays_none, plays_fits, plays_less, plays_more, plays_all, told_all}
 use Rattle.bench.proofs.play.Goals as goal
 
 pub loop-from-init : goal.loop-from-init
 loop-from-init g c = plays_none _ _ _ _ (omega arith) (omega arith)
 
 pub slice_bounds-write_all-end : goal.slice_bounds-write_all-end
-slice_bounds-write_all-end g c = part_length c.feed-fed.ensures.wrote
+slice_bounds-write_all-end g c = written_length c.feed-fed.ensures.wrote
 
 pub overflow_add-from : goal.overflow_add-from
 overflow_add-from g c = omega (arith, plays_fits c.loop-from.invariant c.feed-fed.ensures)

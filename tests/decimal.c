@@ -7,7 +7,7 @@
 #include <stdlib.h>
 #include <string.h>
 
-/* crates/test_numbers/src/lib.rt. Nothing checks these against it: a slice is a pointer and then a length. */
+/* crates/test_numbers_c/src/lib.rt. Nothing checks these against it: a slice is a pointer and then a length. */
 uint64_t test_read(const uint8_t *s, size_t n);
 uint32_t test_read_one(const uint8_t *s, size_t n);
 uint32_t test_read_two(const uint8_t *s, size_t n);

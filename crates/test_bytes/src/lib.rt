@@ -13,8 +13,7 @@ const PACKET: [u8; 8] = [2, 7, b'D', b'I', b'A', 0x2e, 0xdc, 3];
 const LINES: [u8; 8] = *b"DIA\rDIA\r";
 
 // The bytes that so many times eight are answered with, counted modulo 256 each.
-#[unsafe(no_mangle)]
-pub extern "C" fn proved_bytes(times: u32, kind: u32, table: u32) -> u64 {
+pub fn proved_bytes(times: u32, kind: u32, table: u32) -> u64 {
     let mut pump = running(table);
     let mut bytes = first_of(kind);
     let mut said: u64 = 0;

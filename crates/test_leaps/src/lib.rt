@@ -4,8 +4,7 @@
 use test_tables::running;
 
 // The steps infused by that many calls of so many ticks each.
-#[unsafe(no_mangle)]
-pub extern "C" fn proved_calls(calls: u32, ticks: u32, table: u32) -> u64 {
+pub fn proved_calls(calls: u32, ticks: u32, table: u32) -> u64 {
     let mut pump = running(table);
     let mut steps: u64 = 0;
     let mut i: u32 = 0;

@@ -1,8 +1,6 @@
 // The face of the number crate for tests written in C, and nothing else: each function calls one function of `decimal` and
-// hands its result back as a number, or as bytes in a buffer that the caller lends. No crate of the pump uses it.
-//
-// Nothing checks the declarations on the side of C, so only numbers and slices of bytes pass. A slice is two arguments
-// there, a pointer and a length.
+// hands its result back as a number, or as bytes in a buffer that the caller lends. No crate of the pump uses it; `test_numbers_c`
+// exports it.
 #![tactic(auto)]
 
 ghost use Rattle.std.specs.Prelude.{◌≡◌};
@@ -21,8 +19,7 @@ const NO_NUMBER: u64 = 4_294_967_296;
 const NO_DIGITS: u32 = 256;
 
 // `s` as a number of thousandths.
-#[unsafe(no_mangle)]
-pub extern "C" fn test_read(s: &[u8]) -> u64
+pub fn test_read(s: &[u8]) -> u64
     ensures { result ≡ reading_as (read s.now) }
 {
     match decimal::read(s) {
@@ -32,40 +29,35 @@ pub extern "C" fn test_read(s: &[u8]) -> u64
 }
 
 // `s` as one digit.
-#[unsafe(no_mangle)]
-pub extern "C" fn test_read_one(s: &[u8]) -> u32
+pub fn test_read_one(s: &[u8]) -> u32
     ensures { result ≡ short_as (read_one s.now) }
 {
     short_as(decimal::read_one(s))
 }
 
 // `s` as one or two digits.
-#[unsafe(no_mangle)]
-pub extern "C" fn test_read_two(s: &[u8]) -> u32
+pub fn test_read_two(s: &[u8]) -> u32
     ensures { result ≡ short_as (read_two s.now) }
 {
     short_as(decimal::read_two(s))
 }
 
 // `s` as tenths.
-#[unsafe(no_mangle)]
-pub extern "C" fn test_read_tenths(s: &[u8]) -> u32
+pub fn test_read_tenths(s: &[u8]) -> u32
     ensures { result ≡ short_as (read_tenths s.now) }
 {
     short_as(decimal::read_tenths(s))
 }
 
 // 1 if some input gives `x` thousandths, else 0.
-#[unsafe(no_mangle)]
-pub extern "C" fn test_is_writable(x: u32) -> u32
+pub fn test_is_writable(x: u32) -> u32
     ensures { result ≡ test_as (is_writable x) }
 {
     if decimal::is_writable(x) { 1 } else { 0 }
 }
 
 // `x` thousandths, printed into `out`.
-#[unsafe(no_mangle)]
-pub extern "C" fn test_print(x: u32, out: &mut [u8]) -> usize
+pub fn test_print(x: u32, out: &mut [u8]) -> usize
     ensures count { result ≡ count_of (print x) out.old }
     ensures buffer { out.new ≡ buffer_of (print x) out.old }
 {
@@ -74,8 +66,7 @@ pub extern "C" fn test_print(x: u32, out: &mut [u8]) -> usize
 }
 
 // `n` as two digits, printed into `out`.
-#[unsafe(no_mangle)]
-pub extern "C" fn test_print_two(n: u8, out: &mut [u8]) -> usize
+pub fn test_print_two(n: u8, out: &mut [u8]) -> usize
     ensures count { result ≡ count_of (print_two n) out.old }
     ensures buffer { out.new ≡ buffer_of (print_two n) out.old }
 {
@@ -84,8 +75,7 @@ pub extern "C" fn test_print_two(n: u8, out: &mut [u8]) -> usize
 }
 
 // `n` tenths, printed into `out`.
-#[unsafe(no_mangle)]
-pub extern "C" fn test_print_tenths(n: u8, out: &mut [u8]) -> usize
+pub fn test_print_tenths(n: u8, out: &mut [u8]) -> usize
     ensures count { result ≡ count_of (print_tenths n) out.old }
     ensures buffer { out.new ≡ buffer_of (print_tenths n) out.old }
 {

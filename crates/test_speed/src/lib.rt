@@ -5,8 +5,7 @@
 use test_tables::running;
 
 // The steps infused by that many calls of a tick; all tables infuse.
-#[unsafe(no_mangle)]
-pub extern "C" fn proved_ticks(ticks: u32, table: u32) -> u64 {
+pub fn proved_ticks(ticks: u32, table: u32) -> u64 {
     let mut pump = running(table);
     let mut steps: u64 = 0;
     let mut i: u32 = 0;

@@ -1,19 +1,15 @@
 -- What a buffer holds after an answer, by whether the answer was written.
 -- Assumes nothing.
 use Prim.Native.Nat.{ℕ, ◌≤◌, ◌<◌}
-use mathlib.Core.Path.{◌≡◌, refl, sym, ap, ◌∙◌}
-use mathlib.Core.List.{List, [], ◌∷◌}
+use mathlib.Core.Path.{◌≡◌, refl, ◌∙◌}
+use mathlib.Core.List.{List}
 use native.Mathlib.Nat.{zero-add}
 use borrow.Author.Tests.{le-leb, lt-leb}
-use denote.Enum.Declared.{tag_of}
-use types.Run.{OneOf, miss}
-use lib.ListN.{length, take, drop}
-use lib.Seq.{take_at}
+use lib.ListN.{length}
 use Rattle.base.specs.Wrote.{Wrote}
 use Rattle.base.proofs.Writing.{wrote_first}
 use Rattle.words.specs.declared.answers.Said.{Said}
 use Rattle.words.specs.declared.answers.Said.TheVariants as said
-use Rattle.words.specs.contracts.answers.Said.{the_type}
 use Rattle.answer.specs.Answers.{text_of, framed_as, answer_of, room, length_in, buffer_after}
 use Rattle.answer.specs.declared.frame.Frame.{Frame}
 
@@ -36,13 +32,9 @@ answered frame address said {l} h a =
 
 -- what is said, an alarm or an answer, is framed
 pub something :
-    (frame : Frame) (address : ℕ) (said : Said)
-    → OneOf (1 ∷ 2 ∷ []) (tag_of the_type said)
-    → framed_as frame (text_of address said) ≡ answer_of frame address said
-something frame address said.Nothing k = absurd (miss (1 ∷ 2 ∷ []) 0 tt k)
+    (frame : Frame) (address : ℕ) (what : Said)
+    → (what ≡ said.Nothing → ⊥)
+    → framed_as frame (text_of address what) ≡ answer_of frame address what
+something frame address said.Nothing k = absurd (k refl)
 something frame address (said.Alarm alarm) k = refl
 something frame address (said.Answer status reply) k = refl
-
--- the front of a buffer is what was written there
-pub front_written : {l m : List ℕ} {j : ℕ} {v : List ℕ} → Wrote l m 0 j v → take j m ≡ v
-front_written {l} {m} {j} {v} a = ap (take j) (wrote_first a) ∙ take_at v (drop (length v) l) j (sym (a.ends ∙ zero-add (length v)))

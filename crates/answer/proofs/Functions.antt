@@ -1,15 +1,14 @@
--- What is printed of a function: its name, which leads its three places, and its datum, by the tests that find it.
+-- What is printed of a function: how long its name is, and its datum, by the tests that find it.
 -- Assumes nothing.
 use Rattle.std.specs.Prelude.{if◌then◌else◌}
-use Prim.Native.Nat.{ℕ, ◌-◌, ◌≤◌}
+use Prim.Native.Nat.{ℕ, ◌≤◌}
 use mathlib.Core.Path.{◌≡◌, sym, ◌∙◌}
 use mathlib.Core.Bool.{Bool, true, false, ◌||◌}
-use mathlib.Core.List.{List, [], ◌∷◌}
-use native.Mathlib.Nat.{sub-zero}
+use mathlib.Core.List.{[], ◌∷◌}
 use native.Mathlib.Omega.{arith}
 use borrow.Author.Tests.{eq-eqb, ne_eqb}
 use lib.Dec.{eqb}
-use lib.ListN.{length, take}
+use lib.ListN.{length}
 use Rattle.decimal.specs.Print.{last_digit, print_two, print_tenths}
 use Rattle.words.specs.Functions.{number, datum, takes_phase, takes_count, is_out}
 use Rattle.words.specs.Spelling.{function_name, datum_text}
@@ -22,9 +21,6 @@ name_length g = rw (name_length_is g) (few (eqb (number g) 10))
     few : (t : Bool) → (if t then 2 else 3) ≤ 3
     few true = omega arith
     few false = omega arith
-
-pub name_first : (g : Function) (n : ℕ) (s : List ℕ) → n ≡ length (function_name g) → take (length (function_name g)) s ≡ function_name g → take (n - 0) s ≡ function_name g
-name_first g n s a b = rw (sub-zero n, a) b
 
 module _ (g : Function) (n d : ℕ) (a : n ≡ number g) (b : d ≡ datum g) where
   pub datum_tenths : n ≡ 9 → print_tenths d ≡ datum_text g

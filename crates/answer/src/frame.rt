@@ -1,19 +1,16 @@
 // The whole answer: as a line, or in Safe mode as a packet.
-ghost use Rattle.std.specs.Prelude.{[], ◌∷◌, ◌++◌, ◌≡◌, ◌+◌, ◌≤◌, length};
+ghost use Rattle.std.specs.Prelude.{[], ◌∷◌, ◌++◌, ◌≡◌, ◌≤◌, length};
 ghost use Rattle.base.specs.Wrote.{Wrote};
 ghost use Rattle.packet.specs.Packets.{packet_of};
 ghost use Rattle.answer.specs.Answers.{text_of, framed_as, room, length_in, buffer_after};
 
-use crate::writing::{body, two_digits};
-use base::put;
+use crate::writing::{Text, body, joined};
+use base::{copy, put};
+use packet::{ETX, STX};
 use words::Said;
 
 // What a buffer must have room for, whatever the answer.
 pub const ROOM: usize = 24;
-
-const STX: u8 = 2;
-
-const ETX: u8 = 3;
 
 // What stands around an answer's text: STX and ETX alone, or a packet.
 #[derive(Clone, Copy)]
@@ -31,16 +28,9 @@ pub fn write(frame: Frame, address: u8, said: Said, out: &mut [u8]) -> usize
     if out.len() < ROOM {
         return 0;
     }
-    match said {
-        Said::Nothing => 0,
-        Said::Alarm(_) | Said::Answer(_, _) => write_framed(frame, address, said, out),
+    if let Said::Nothing = said {
+        return 0;
     }
-}
-
-fn write_framed(frame: Frame, address: u8, said: Said, out: &mut [u8]) -> usize
-    requires { room ≤ length out.old }
-    ensures { Wrote out.old out.new 0 result (framed_as frame (text_of address said)) }
-{
     match frame {
         Frame::Line => write_line(address, said, out),
         Frame::Packet => write_packet(address, said, out),
@@ -52,25 +42,20 @@ fn write_line(address: u8, said: Said, out: &mut [u8]) -> usize
     ensures { Wrote out.old out.new 0 result ((2 ∷ []) ++ text_of address said ++ (3 ∷ [])) }
 {
     let a = put(out, 0, STX);
-    let b = text(address, said, out, a);
+    let b = copy(out, a, text(address, said).as_slice());
     put(out, b, ETX)
 }
 
-// The check is taken over the whole text, so that the text is written first, apart.
 fn write_packet(address: u8, said: Said, out: &mut [u8]) -> usize
     requires { room ≤ length out.old }
     ensures { Wrote out.old out.new 0 result (packet_of (text_of address said)) }
 {
-    let mut apart = [0; ROOM];
-    let n = text(address, said, &mut apart, 0);
-    packet::send(&apart[..n], out, 0)
+    packet::send(text(address, said).as_slice(), out, 0)
 }
 
 // The address as two digits, and what follows it.
-fn text(address: u8, said: Said, out: &mut [u8], at: usize) -> usize
-    requires { at + 19 ≤ length out.old }
-    ensures { Wrote out.old out.new at result (text_of address said) }
+fn text(address: u8, said: Said) -> Text
+    ensures { result.items ≡ text_of address said }
 {
-    let a = two_digits(address, out, at);
-    body(said, out, a)
+    joined(&decimal::print_two(address), body(said).as_slice())
 }

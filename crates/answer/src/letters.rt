@@ -1,4 +1,5 @@
-// The letters that stand for a status, for an alarm, for a unit and for a direction.
+// The letters that stand for a status, for an alarm, for a unit and for a direction. They are no `From`: neither type is this crate's own, and
+// how they are spelled is of no concern to the crates whose types they are.
 ghost use Rattle.std.specs.Prelude.{◌≡◌};
 ghost use Rattle.words.specs.Spelling.{rate_letters, volume_letters, direction_letters};
 ghost use Rattle.answer.specs.Letters.{status_letter, alarm_letter};
@@ -33,10 +34,10 @@ pub fn rate_letters(unit: RateUnit) -> [u8; 2]
     ensures { result ≡ rate_letters unit }
 {
     match unit {
-        RateUnit::Um => [b'U', b'M'],
-        RateUnit::Mm => [b'M', b'M'],
-        RateUnit::Uh => [b'U', b'H'],
-        RateUnit::Mh => [b'M', b'H'],
+        RateUnit::Um => *b"UM",
+        RateUnit::Mm => *b"MM",
+        RateUnit::Uh => *b"UH",
+        RateUnit::Mh => *b"MH",
     }
 }
 
@@ -44,8 +45,8 @@ pub fn volume_letters(unit: VolumeUnit) -> [u8; 2]
     ensures { result ≡ volume_letters unit }
 {
     match unit {
-        VolumeUnit::Microlitre => [b'U', b'L'],
-        VolumeUnit::Millilitre => [b'M', b'L'],
+        VolumeUnit::Microlitre => *b"UL",
+        VolumeUnit::Millilitre => *b"ML",
     }
 }
 
@@ -53,7 +54,7 @@ pub fn direction_letters(d: Direction) -> [u8; 3]
     ensures { result ≡ direction_letters d }
 {
     match d {
-        Direction::Infuse => [b'I', b'N', b'F'],
-        Direction::Withdraw => [b'W', b'D', b'R'],
+        Direction::Infuse => *b"INF",
+        Direction::Withdraw => *b"WDR",
     }
 }

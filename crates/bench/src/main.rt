@@ -35,7 +35,7 @@ fn run<R: Read, W: Write>(input: &mut R, output: &mut W) -> io::Result<()>
     close(bench, output)
 }
 
-// The bench after a read, and whether the input has ended.
+// The bench after a read, and whether the input has ended. The bench is there either way, so that the two stay a pair.
 #[derive(Clone, Copy)]
 struct Served {
     bench: Bench,
@@ -52,7 +52,7 @@ fn serve<R: Read, W: Write>(bench: Bench, input: &mut R, output: &mut W) -> io::
     let bench = play(bench, &space[..n], output)?;
     output.flush()?;
     Ok(Served {
-        bench: bench,
+        bench,
         ended: n == 0,
     })
 }
@@ -63,16 +63,16 @@ fn play<W: Write>(bench: Bench, s: &[u8], output: &mut W) -> io::Result<Bench>
     ensures output { OnOk result (Appends (W.contents output.old) (W.contents output.new) (says bench s.now)) }
 {
     let mut fed = Fed {
-        bench: bench,
+        bench,
         taken: 0,
         end: 0,
     };
     let mut from = 0;
     let mut out = [0u8; 65_536];
+    // no index loop: it goes on by what was taken
     while from < s.len() {
         fed = fed.bench.feed(&s[from..], &mut out);
-        let end = fed.end;
-        output.write_all(&out[..end])?;
+        output.write_all(&out[..fed.end])?;
         from += fed.taken;
     }
     Ok(fed.bench)

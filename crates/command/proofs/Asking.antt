@@ -8,19 +8,13 @@ use lib.Dec.{ltb}
 use borrow.Author.Tests.{ltb-true}
 use Rattle.base.proofs.Choices.{and_left, and_right}
 use Rattle.drive.specs.Syringe.{volume_unit, thousandth}
-use Rattle.drive.specs.declared.rates.RateUnit.{RateUnit}
 use Rattle.drive.specs.declared.syringe.Syringe.{Syringe}
 use Rattle.drive.specs.declared.syringe.VolumeUnit.{VolumeUnit}
 use Rattle.drive.proofs.Bounds.{thousandth_ge}
 use Rattle.words.specs.declared.answers.Reply.TheVariants as reply
 use Rattle.dispense.specs.declared.ledgers.Ledger.{Ledger}
-use Rattle.dispense.specs.declared.rates.Rate.{Rate}
-use Rattle.dispense.specs.declared.rates.Rate.TheVariants.{Current}
-use Rattle.command.specs.Queries.{current_rate, ask_totals}
+use Rattle.command.specs.Queries.{ask_totals}
 use Rattle.command.proofs.Choosing as choosing
-
-pub shows_current : (k : Rate) (x : ℕ) (u : RateUnit) → k ≡ Current u x → reply.Rate x u ≡ current_rate k
-shows_current k x u e = ap current_rate (sym e)
 
 pub shows_volume : (x : ℕ) (u v : VolumeUnit) → u ≡ v → reply.Volume x u ≡ reply.Volume x v
 shows_volume x u v e = ap (reply.Volume x) e

@@ -1,7 +1,8 @@
 -- What a test made of several calls says, by what each of them returns.
 -- Assumes nothing.
-use mathlib.Core.Path.{◌≡◌, sym}
-use mathlib.Core.Bool.{Bool, ◌&&◌, not}
+use Rattle.std.specs.Prelude.{Option, is_some, is_none}
+use mathlib.Core.Path.{◌≡◌, sym, ap}
+use mathlib.Core.Bool.{Bool, true, false, ◌&&◌, not}
 use borrow.Author.Tests.{le-leb, lt-leb}
 use Rattle.program.proofs.Choosing.{told, chosen, passed}
 
@@ -19,4 +20,9 @@ module _ (t u b : Bool) (p : u ≡ t) (x : Bool) where
   pub told_unless : (y : Bool) → (x && not (u && y)) ≡ b → (x && not (t && y)) ≡ b
   told_unless y e = rw (sym p) e
 
-pub ruleset choices = (chosen, passed, told, told_both, told_with, told_unless, told_four, le-leb, lt-leb)
+-- `Option::is_none` promises what `is_some` is
+pub told_none : {A : Type 0} (o : Option A) (b : Bool) → is_some o ≡ not b → b ≡ is_none o
+told_none o true e = ap not (sym e)
+told_none o false e = ap not (sym e)
+
+pub ruleset choices = (chosen, passed, told, told_both, told_with, told_unless, told_four, told_none, le-leb, lt-leb)

@@ -1,22 +1,22 @@
 -- One command, with the phase in hand, the function of the phase one number higher, and the number of phases: the next core, what is
 -- to be done to the table of phases, and the reply.   (01, Commands)
-use Rattle.std.specs.Prelude.{ℕ, if◌then◌else◌}
+use Rattle.std.specs.Prelude.{ℕ, Option, unwrap_or, Result, Ok, Err, ⊤, if◌then◌else◌, Some, None}
 use Rattle.drive.specs.Directions.{reverse}
 use Rattle.drive.specs.declared.directions.Direction.{Direction}
+use Rattle.drive.specs.declared.rates.RateUnit.{RateUnit}
+use Rattle.words.specs.Answers.{declined}
+use Rattle.words.specs.declared.answers.Declined.{Declined}
 use Rattle.words.specs.declared.answers.Reply.{Reply}
 use Rattle.words.specs.declared.answers.Reply.TheVariants as reply
 use Rattle.words.specs.declared.commands.Command.{Command}
 use Rattle.words.specs.declared.commands.Command.TheVariants as c
-use Rattle.words.specs.declared.commands.Units.{Units}
 use Rattle.words.specs.declared.functions.Function.{Function}
 use Rattle.words.specs.declared.phases.Phase.{Phase}
 use Rattle.dispense.specs.Ledgers as ledgers
 use Rattle.dispense.specs.declared.rates.Rate.{Rate}
-use Rattle.dispense.specs.declared.rates.Rate.TheVariants.{NoRate, Current}
 use Rattle.program.specs.Control.{run_on, run_from, stop_now}
 use Rattle.program.specs.Cores.{with_run, with_ledger, with_syringe, with_chosen, reset_core}
 use Rattle.program.specs.Runs.{with_rate, stop, is_operating}
-use Rattle.program.specs.declared.control.Steered.{Steered}
 use Rattle.program.specs.declared.state.Core.{Core}
 use Rattle.program.specs.declared.state.Mode.{Mode}
 use Rattle.program.specs.declared.state.Mode.TheVariants.{Stopped, Paused, Running}
@@ -24,8 +24,6 @@ use Rattle.program.specs.declared.state.Run.{Run}
 use Rattle.command.specs.Judging as judging
 use Rattle.command.specs.Phases.{with_stored, with_volume, with_direction, with_function}
 use Rattle.command.specs.Queries.{ask_rate, ask_volume, ask_phase, ask_totals}
-use Rattle.command.specs.declared.judging.Verdict.{Verdict}
-use Rattle.command.specs.declared.judging.Verdict.TheVariants.{Accepted, NotApplicable, OutOfRange}
 use Rattle.command.specs.declared.obeying.Edit.{Edit}
 use Rattle.command.specs.declared.obeying.Edit.TheVariants.{Keep, Write, Renew}
 use Rattle.command.specs.declared.obeying.Obeyed.{Obeyed}
@@ -34,15 +32,15 @@ use Rattle.command.specs.declared.obeying.Obeyed.{Obeyed}
 abbrev pub answer : Core → Reply → Obeyed
 answer s r = record { core = s; edit = Keep; reply = r }
 
--- RUN and STP concern the program under way alone
-abbrev pub steer : Core → Steered → Obeyed
-steer s x = answer (with_run s x.run) x.reply
+-- RUN and STP concern the program under way alone; what is declined is told, and changes nothing
+abbrev pub steer : Core → Result Run Declined → Obeyed
+steer s (Ok r) = answer (with_run s r) reply.Status
+steer s (Err why) = answer s (declined why)
 
 -- ---- what is accepted changes the core and may edit the phases; what is not is told, and changes nothing
-abbrev pub decide : Core → Core → Edit → Verdict → Obeyed
-decide s after edit Accepted = record { core = after; edit = edit; reply = reply.Status }
-decide s after edit NotApplicable = answer s reply.NotApplicable
-decide s after edit OutOfRange = answer s reply.OutOfRange
+abbrev pub decide : Core → Core → Edit → Result ⊤ Declined → Obeyed
+decide s after edit (Ok x) = record { core = after; edit = edit; reply = reply.Status }
+decide s after edit (Err why) = answer s (declined why)
 
 -- an accepted setting of DIA, RAT, VOL, DIR or FUN while paused makes the pump stopped
 abbrev pub settle_by : Run → Mode → Run
@@ -54,7 +52,7 @@ unfoldable pub settle : Run → Run
 settle r = settle_by r r.mode
 
 -- VOL, DIR and FUN: the phase in hand as the setting makes it
-abbrev pub set_phase_to : Core → Phase → Verdict → Obeyed
+abbrev pub set_phase_to : Core → Phase → Result ⊤ Declined → Obeyed
 set_phase_to s p verdict = decide s (with_run s (settle s.run)) (Write p) verdict
 
 abbrev pub set_volume : Core → Phase → ℕ → Obeyed
@@ -72,19 +70,19 @@ set_diameter s x =
     decide s (with_syringe (with_run s (settle s.run)) (record { diameter = x })) Keep (judging.judge_diameter (is_operating s.run) x)
 
 -- ---- RAT: while operating it alters the current rate alone, in its units; the time store and the stored rate stay
-abbrev pub tune_by : Run → ℕ → Rate → Run
-tune_by r x NoRate = r
-tune_by r x (Current unit old) = with_rate r (Current unit x)
+abbrev pub tune_by : Run → ℕ → Option Rate → Run
+tune_by r x None = r
+tune_by r x (Some old) = with_rate r (Some (record { unit = old.unit; thousandths = x }))
 
 unfoldable pub tune : Run → ℕ → Run
 tune r x = tune_by r x r.rate
 
-unfoldable pub set_rate : Core → Phase → Function → ℕ → Units → Obeyed
+unfoldable pub set_rate : Core → Phase → Function → ℕ → Option RateUnit → Obeyed
 set_rate s p next x units =
     if is_operating s.run
     then decide s (with_run s (tune s.run x)) Keep (judging.judge_tuning s.run s.syringe p next x units)
     else
-    set_phase_to s (with_stored p x (judging.unit_or units p.unit)) (judging.judge_stored s.syringe p x units)
+    set_phase_to s (with_stored p x (unwrap_or units p.unit)) (judging.judge_stored s.syringe p x units)
 
 -- ---- PHN keeps a pause
 unfoldable pub choose : Core → ℕ → ℕ → Obeyed

@@ -1,5 +1,5 @@
 -- What a query answers. The phase in hand is the running one while operating, else the chosen one.   (01, Commands: the queries)
-use Rattle.std.specs.Prelude.{ℕ, ◌/◌, ◌&&◌, leb, ltb, if◌then◌else◌}
+use Rattle.std.specs.Prelude.{ℕ, ◌/◌, ◌&&◌, leb, ltb, if◌then◌else◌, Option, Some, None}
 use Rattle.drive.specs.Syringe.{volume_unit, thousandth}
 use Rattle.drive.specs.declared.syringe.Syringe.{Syringe}
 use Rattle.words.specs.Functions.{is_flow, is_ramp, is_rate_phase}
@@ -8,14 +8,13 @@ use Rattle.words.specs.declared.answers.Reply.TheVariants as reply
 use Rattle.words.specs.declared.phases.Phase.{Phase}
 use Rattle.dispense.specs.declared.ledgers.Ledger.{Ledger}
 use Rattle.dispense.specs.declared.rates.Rate.{Rate}
-use Rattle.dispense.specs.declared.rates.Rate.TheVariants.{NoRate, Current}
 use Rattle.program.specs.Runs.{is_operating}
 use Rattle.program.specs.declared.state.Run.{Run}
 
 -- ---- RAT: while operating, in any phase, the current rate and its units; else the stored rate of a rate phase, with units if RAT
-abbrev pub current_rate : Rate → Reply
-current_rate NoRate = reply.NotApplicable
-current_rate (Current unit x) = reply.Rate x unit
+abbrev pub current_rate : Option Rate → Reply
+current_rate None = reply.NotApplicable
+current_rate (Some x) = reply.Rate x.thousandths x.unit
 
 unfoldable pub stored_rate : Phase → Reply
 stored_rate p =

@@ -13,4 +13,4 @@ mod obeying;
 mod phases;
 mod queries;
 
-pub use obeying::{Edit, Obeyed, obey};
+pub use obeying::{Edit, InHand, Obeyed, obey};

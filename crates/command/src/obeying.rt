@@ -4,17 +4,18 @@ ghost use Rattle.command.specs.Obeying.{answer, steer, decide, settle, set_phase
 ghost use Rattle.command.specs.Obeying.{set_diameter, set_rate, tune, choose, clear_total, reset, obey};
 
 use crate::judging::{
-    Verdict, judge_diameter, judge_direction, judge_function, judge_idle, judge_phase,
-    judge_stored, judge_tuning, judge_volume, unit_or,
+    judge_diameter, judge_direction, judge_function, judge_idle, judge_phase, judge_stored,
+    judge_tuning, judge_volume,
 };
 use crate::phases::{with_direction, with_function, with_stored, with_volume};
 use crate::queries::{ask_phase, ask_rate, ask_totals, ask_volume};
 use dispense::Rate;
-use drive::Direction;
-use program::{Core, Mode, Run, Steered};
-use words::{Command, Function, Phase, Reply, Units};
+use drive::{Direction, RateUnit};
+use program::{Core, Mode, Run};
+use words::{Command, Declined, Function, Phase, Reply};
 
-// What a command asks to be done to the table of phases: nothing; another phase in hand; all phases as at power-up.
+// What a command asks to be done to the table of phases: nothing; another phase in hand; all phases as at power-up. Three answers to one
+// question: an Option would add a `Some` wherever one is made, and take no test away.
 #[derive(Clone, Copy)]
 pub enum Edit {
     Keep,
@@ -30,35 +31,36 @@ pub struct Obeyed {
     pub reply: Reply,
 }
 
+// What a command meets of the phases: the phase in hand, the function of the phase one number higher, and how many there are.
+#[derive(Clone, Copy)]
+pub struct InHand {
+    pub phase: Phase,
+    pub next: Function,
+    pub phases: u8,
+}
+
 // What asks changes nothing, and neither does what cannot be read; every other command is carried out by a function of its own.
-pub fn obey(core: Core, hand: Phase, next: Function, phases: u8, command: Command) -> Obeyed
+pub fn obey(core: Core, in_hand: InHand, command: Command) -> Obeyed
     requires { core.run.place.current ≤ 100 }
-    ensures { result ≡ obey core hand next phases command }
+    ensures { result ≡ obey core in_hand.phase in_hand.next in_hand.phases command }
 {
+    let hand = in_hand.phase;
+    let phases = in_hand.phases;
     let reply = match command {
         Command::Malformed => Reply::Malformed,
         Command::Status => Reply::Status,
         Command::AskDiameter => Reply::Number(core.syringe.diameter as u32),
         Command::SetDiameter(x) => return set_diameter(core, x),
         Command::AskRate => ask_rate(core.run, hand),
-        Command::SetRate(x, units) => return set_rate(core, hand, next, x, units),
+        Command::SetRate(x, units) => return set_rate(core, hand, in_hand.next, x, units),
         Command::AskVolume => ask_volume(core.syringe, hand),
         Command::SetVolume(x) => return set_volume(core, hand, x),
-        Command::AskDirection => {
-            let direction = hand.direction;
-            Reply::Direction(direction)
-        }
+        Command::AskDirection => Reply::Direction(hand.direction),
         Command::SetDirection(d) => return set_direction(core, hand, d),
-        Command::Reverse => {
-            let direction = hand.direction;
-            return set_direction(core, hand, direction.reverse());
-        }
+        Command::Reverse => return set_direction(core, hand, hand.direction.reverse()),
         Command::AskPhase => ask_phase(core.run, core.chosen, phases),
         Command::SetPhase(n) => return choose(core, n, phases),
-        Command::AskFunction => {
-            let function = hand.function;
-            Reply::Function(function)
-        }
+        Command::AskFunction => Reply::Function(hand.function),
         Command::SetFunction(f) => return set_function(core, hand, f, phases),
         Command::Run => return steer(core, core.run.run_on()),
         Command::RunFrom(n) => return steer(core, core.run.run_from(n, phases)),
@@ -75,32 +77,33 @@ fn answer(core: Core, reply: Reply) -> Obeyed
     ensures { result ≡ answer core reply }
 {
     Obeyed {
-        core: core,
+        core,
         edit: Edit::Keep,
-        reply: reply,
+        reply,
     }
 }
 
-// RUN and STP
-fn steer(core: Core, steered: Steered) -> Obeyed
+// RUN and STP: what they make of the program under way; what is declined is told, and changes nothing.
+fn steer(core: Core, steered: Result<Run, Declined>) -> Obeyed
     ensures { result ≡ steer core steered }
 {
-    let reply = steered.reply;
-    answer(core.with_run(steered.run), reply)
+    match steered {
+        Ok(run) => answer(core.with_run(run), Reply::Status),
+        Err(declined) => answer(core, declined.into()),
+    }
 }
 
 // What is accepted changes the core and may edit the phases; what is not is told, and changes nothing.
-fn decide(core: Core, after: Core, edit: Edit, verdict: Verdict) -> Obeyed
+fn decide(core: Core, after: Core, edit: Edit, verdict: Result<(), Declined>) -> Obeyed
     ensures { result ≡ decide core after edit verdict }
 {
     match verdict {
-        Verdict::Accepted => Obeyed {
+        Ok(()) => Obeyed {
             core: after,
-            edit: edit,
+            edit,
             reply: Reply::Status,
         },
-        Verdict::NotApplicable => answer(core, Reply::NotApplicable),
-        Verdict::OutOfRange => answer(core, Reply::OutOfRange),
+        Err(why) => answer(core, why.into()),
     }
 }
 
@@ -108,15 +111,14 @@ fn decide(core: Core, after: Core, edit: Edit, verdict: Verdict) -> Obeyed
 fn settle(run: Run) -> Run
     ensures { result ≡ settle run }
 {
-    let mode = run.mode;
-    if let Mode::Paused = mode {
+    if let Mode::Paused = run.mode {
         return run.stop();
     }
     run
 }
 
 // VOL, DIR and FUN: the phase in hand as the setting makes it.
-fn set_phase_to(core: Core, phase: Phase, verdict: Verdict) -> Obeyed
+fn set_phase_to(core: Core, phase: Phase, verdict: Result<(), Declined>) -> Obeyed
     ensures { result ≡ set_phase_to core phase verdict }
 {
     decide(
@@ -135,7 +137,7 @@ fn set_volume(core: Core, hand: Phase, x: u32) -> Obeyed
     set_phase_to(core, with_volume(hand, x), verdict)
 }
 
-// DIR
+// DIR; the like of VOL in form alone: judged by another rule, and another field is set
 fn set_direction(core: Core, hand: Phase, direction: Direction) -> Obeyed
     ensures { result ≡ set_direction core hand direction }
 {
@@ -158,14 +160,13 @@ fn set_diameter(core: Core, x: u32) -> Obeyed
     let verdict = judge_diameter(core.run.is_operating(), x);
     let mut after = core.with_run(settle(core.run));
     if x <= drive::MOST_DIAMETER as u32 {
-        let d = x as u16;
-        after.syringe.diameter = d;
+        after.syringe.diameter = x as u16;
     }
     decide(core, after, Edit::Keep, verdict)
 }
 
 // RAT: while operating it alters the current rate, else the stored one.
-fn set_rate(core: Core, hand: Phase, next: Function, x: u32, units: Units) -> Obeyed
+fn set_rate(core: Core, hand: Phase, next: Function, x: u32, units: Option<RateUnit>) -> Obeyed
     ensures { result ≡ set_rate core hand next x units }
 {
     if core.run.is_operating() {
@@ -173,19 +174,23 @@ fn set_rate(core: Core, hand: Phase, next: Function, x: u32, units: Units) -> Ob
         return decide(core, core.with_run(tune(core.run, x)), Edit::Keep, verdict);
     }
     let verdict = judge_stored(core.syringe, hand, x, units);
-    let unit = hand.unit;
-    set_phase_to(core, with_stored(hand, x, unit_or(units, unit)), verdict)
+    set_phase_to(
+        core,
+        with_stored(hand, x, units.unwrap_or(hand.unit)),
+        verdict,
+    )
 }
 
 // The current rate alone, in its units; the time store and the stored rate stay.
 fn tune(run: Run, x: u32) -> Run
     ensures { result ≡ tune run x }
 {
-    let rate = run.rate;
-    if let Rate::Current(unit, _) = rate {
-        return run.with_rate(Rate::Current(unit, x));
-    }
-    run
+    run.with_rate(
+        run.rate.map(|rate| Rate {
+            thousandths: x,
+            ..rate
+        }),
+    )
 }
 
 // PHN keeps a pause.
@@ -193,8 +198,7 @@ fn choose(core: Core, n: u8, phases: u8) -> Obeyed
     ensures { result ≡ choose core n phases }
 {
     let verdict = judge_phase(core.run.is_operating(), n, phases);
-    let mut after = core;
-    after.chosen = n;
+    let after = Core { chosen: n, ..core };
     decide(core, after, Edit::Keep, verdict)
 }
 
@@ -203,8 +207,10 @@ fn clear_total(core: Core, direction: Direction) -> Obeyed
     ensures { result ≡ clear_total core direction }
 {
     let verdict = judge_idle(core.run.is_operating());
-    let mut after = core;
-    after.ledger = core.ledger.clear(direction);
+    let after = Core {
+        ledger: core.ledger.clear(direction),
+        ..core
+    };
     decide(core, after, Edit::Keep, verdict)
 }
 

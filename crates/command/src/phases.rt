@@ -9,51 +9,30 @@ use words::{Function, Phase};
 pub fn with_stored(hand: Phase, x: u32, unit: RateUnit) -> Phase
     ensures { result ≡ with_stored hand x unit }
 {
-    let function = hand.function;
-    let direction = hand.direction;
     Phase {
         rate: x,
-        volume: hand.volume,
-        function: function,
-        unit: unit,
-        direction: direction,
+        unit,
+        ..hand
     }
 }
 
 // VOL
-pub fn with_volume(mut hand: Phase, x: u32) -> Phase
+pub fn with_volume(hand: Phase, x: u32) -> Phase
     ensures { result ≡ with_volume hand x }
 {
-    hand.volume = x;
-    hand
+    Phase { volume: x, ..hand }
 }
 
 // DIR
 pub fn with_direction(hand: Phase, direction: Direction) -> Phase
     ensures { result ≡ with_direction hand direction }
 {
-    let function = hand.function;
-    let unit = hand.unit;
-    Phase {
-        rate: hand.rate,
-        volume: hand.volume,
-        function: function,
-        unit: unit,
-        direction: direction,
-    }
+    Phase { direction, ..hand }
 }
 
 // FUN alters the function and its data only.
 pub fn with_function(hand: Phase, function: Function) -> Phase
     ensures { result ≡ with_function hand function }
 {
-    let unit = hand.unit;
-    let direction = hand.direction;
-    Phase {
-        rate: hand.rate,
-        volume: hand.volume,
-        function: function,
-        unit: unit,
-        direction: direction,
-    }
+    Phase { function, ..hand }
 }

@@ -11,31 +11,28 @@ use words::{Phase, Reply};
 pub fn ask_rate(run: Run, hand: Phase) -> Reply
     ensures { result ≡ ask_rate run hand }
 {
-    let rate = run.rate;
     if run.is_operating() {
-        return current_rate(rate);
+        return current_rate(run.rate);
     }
     stored_rate(hand)
 }
 
-fn current_rate(rate: Rate) -> Reply
+fn current_rate(rate: Option<Rate>) -> Reply
     ensures { result ≡ current_rate rate }
 {
     match rate {
-        Rate::NoRate => Reply::NotApplicable,
-        Rate::Current(unit, x) => Reply::Rate(x, unit),
+        None => Reply::NotApplicable,
+        Some(rate) => Reply::Rate(rate.thousandths, rate.unit),
     }
 }
 
 fn stored_rate(hand: Phase) -> Reply
     ensures { result ≡ stored_rate hand }
 {
-    let function = hand.function;
-    let unit = hand.unit;
-    if function.is_flow() {
-        return Reply::Rate(hand.rate, unit);
+    if hand.function.is_flow() {
+        return Reply::Rate(hand.rate, hand.unit);
     }
-    if function.is_ramp() {
+    if hand.function.is_ramp() {
         return Reply::Number(hand.rate);
     }
     Reply::NotApplicable
@@ -45,8 +42,7 @@ fn stored_rate(hand: Phase) -> Reply
 pub fn ask_volume(syringe: Syringe, hand: Phase) -> Reply
     ensures { result ≡ ask_volume syringe hand }
 {
-    let function = hand.function;
-    if function.is_rate_phase() {
+    if hand.function.is_rate_phase() {
         return Reply::Volume(hand.volume, syringe.volume_unit());
     }
     Reply::NotApplicable

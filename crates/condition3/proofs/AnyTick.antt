@@ -4,6 +4,7 @@ use Prim.Native.Nat.{◌-◌}
 use mathlib.Core.Path.{◌≡◌, refl, sym, ap, ◌∙◌, subst}
 use mathlib.Core.Bool.{false}
 use lib.Dec.{leb}
+use Rattle.std.specs.Prelude.{ℕ, is_some}
 use Rattle.loops.specs.Loops.{opened}
 use Rattle.program.specs.Cores.{with_run}
 use Rattle.program.specs.Runs.{doing, go_on, is_visiting}
@@ -25,7 +26,7 @@ use Rattle.statement.specs.Facts.{core_of, run_of, under_way}
 use Rattle.statement.specs.Histories.{Whole}
 use Rattle.statement.specs.Outcomes.{pump_with_core}
 use Rattle.condition3.specs.Books.{Books, nothing}
-use Rattle.condition3.specs.Stored.{SameWork, is_set}
+use Rattle.condition3.specs.Stored.{SameWork}
 use Rattle.condition3.proofs.Entering.{enters_phase_lem}
 use Rattle.condition3.proofs.Noting.{Kept}
 use Rattle.condition3.proofs.Ticks.{Stepped, moved, Silent, idle_stopped, idle_on, none_booked, same_none}
@@ -55,7 +56,7 @@ module _ (p : Pump) (b : Books) (k : Kept p b) where
     resting r m l t v w =
         idle_on p b k (silent (with_run (core_of p) r)) (still r w) (rw (runs, at) rests) (ap is_stopped_in (m ∙ runs))
         (subst (SameWork (pump_with_core p (with_run (core_of p) r)) r.place.work) (sym no_visit) (same_none _ r.place.work v))
-        (ap opened l) (ap is_set t)
+        (ap opened l) (ap (is_some {T = ℕ}) t)
 
   tick_work : (run_of p).mode ≡ Running → (x : Work) → under_way p ≡ x → Ticks (work_by (core_of p) (here_of p) x)
   unfolding work_pause

@@ -1,7 +1,7 @@
 -- A byte: the pump and the books agree behind it. In Basic mode it joins the line, or ends it; in Safe mode it joins the packet under way,
 -- or makes it wrong, or good; and the text of a line or of a good packet is heard.
 -- Assumes nothing.
-use Rattle.std.specs.Prelude.{if◌then◌else◌}
+use Rattle.std.specs.Prelude.{if◌then◌else◌, Option, None, Some}
 use Prim.Native.Nat.{ℕ, ◌≤◌}
 use mathlib.Core.Path.{◌≡◌, refl, sym, ap, ap₂, ◌∙◌, subst}
 use mathlib.Core.Bool.{Bool, true, false}
@@ -20,12 +20,9 @@ use Rattle.packet.specs.Receiver as receiver
 use Rattle.packet.specs.declared.receiver.Arrived.{Arrived}
 use Rattle.packet.specs.declared.receiver.Outcome as told
 use Rattle.packet.specs.declared.receiver.Outcome.TheVariants as outcome
-use Rattle.packet.specs.declared.receiver.Place.TheVariants.{Outside}
 use Rattle.link.specs.Link as link
 use Rattle.link.specs.Link.{receiver_of, safe_in, cleared_link}
 use Rattle.link.specs.declared.Link.{Link}
-use Rattle.link.specs.declared.Mode.{Mode}
-use Rattle.link.specs.declared.Mode.TheVariants.{Basic, Safe}
 use Rattle.link.specs.declared.Safety.{Safety}
 use Rattle.link.specs.declared.Taken.{Taken}
 use Rattle.link.proofs.Modes.{not_safe, safe_after, stands}
@@ -87,15 +84,15 @@ module _ (p : Pump) (b : Books) (k : Kept p b) (packet : SamePacket (link_of p) 
 
   -- ---- Basic mode
   module _ (basic : link.is_safe (link_of p) ≡ false) where
-    place_outside : place_in (link_of p).mode ≡ Outside
+    place_outside : place_in (link_of p).safety ≡ None
     place_outside = ap place_in (not_safe (link_of p) basic)
 
     no_packet : b.packet ≡ outside
     no_packet =
         none_booked (link_of p).bytes b.packet b.quiet
-        (subst (λ (m : Mode). SamePlace (link_of p).bytes (place_in m) b.packet b.quiet) (not_safe (link_of p) basic) packet)
+        (subst (λ (m : Option Safety). SamePlace (link_of p).bytes (place_in m) b.packet b.quiet) (not_safe (link_of p) basic) packet)
 
-    packet_stays : (l : Link) → place_in l.mode ≡ Outside → SamePacket l (packet_after b (is_safe (view_of p)) answered (byte_in x buffer)) 0
+    packet_stays : (l : Link) → place_in l.safety ≡ None → SamePacket l (packet_after b (is_safe (view_of p)) answered (byte_in x buffer)) 0
     packet_stays l h =
         subst (λ (y : Packet). SamePacket l y 0)
         (sym (ap (λ (t : Bool). if t then packet_by b.packet answered x else b.packet) (seen_as false basic) ∙ no_packet))
@@ -135,11 +132,11 @@ module _ (p : Pump) (b : Books) (k : Kept p b) (packet : SamePacket (link_of p) 
     packet_is = ap (λ (t : Bool). if t then packet_by b.packet answered x else b.packet) (seen_as true safe)
 
     -- the link's mode, with the receiver in it
-    module _ (s : Safety) (is : (link_of p).mode ≡ Safe s) where
+    module _ (s : Safety) (is : (link_of p).safety ≡ Some s) where
       abbrev a : Arrived
-      a = receiver.after_byte (receiver_of (link_of p).bytes s.place) x
+      a = receiver.after_byte (receiver_of (link_of p).bytes s.part) x
 
-      sound : follows.Sound (receiver_of (link_of p).bytes s.place)
+      sound : follows.Sound (receiver_of (link_of p).bytes s.part)
       sound = record { places = k.whole.packet_places; tested = (stands (link_of p) s (pump_link p k.whole.sound) is).received }
 
       outcome_is : (y : told.Outcome) → (taken p x).outcome ≡ y → a.outcome ≡ y
@@ -177,29 +174,29 @@ module _ (p : Pump) (b : Books) (k : Kept p b) (packet : SamePacket (link_of p) 
 
         packet_over :
             (l : Link)
-            → place_in l.mode ≡ Outside
+            → place_in l.safety ≡ None
             → SamePacket l (packet_after b (is_safe (view_of p)) answered (byte_in x buffer)) 0
         packet_over l h =
             subst (λ (z : Packet). SamePacket l z 0)
             (sym (packet_is ∙ over_good (link_of p) s is sound b.packet b.quiet packet x answered d (heard_is (outcome.Good n) e)))
             (none_there l 0 h)
 
-        cleared_outside : place_in (cleared_link (taken p x).link).mode ≡ Outside
+        cleared_outside : place_in (cleared_link (taken p x).link).safety ≡ None
         cleared_outside =
-            ap (λ (l : Link). place_in l.mode) (good_cleared (link_of p) x n (pump_link p k.whole.sound) e)
+            ap (λ (l : Link). place_in l.safety) (good_cleared (link_of p) x n (pump_link p k.whole.sound) e)
             ∙ limited_outside (link.limit_of (link_of p))
 
   -- ---- any byte
   heard_safely :
       (safe : link.is_safe (link_of p) ≡ true)
-      → ((s : Safety) → (link_of p).mode ≡ Safe s → Followed b event)
+      → ((s : Safety) → (link_of p).safety ≡ Some s → Followed b event)
       → Followed b event
   unfolding link.is_safe
-  heard_safely safe f = go (link_of p).mode refl
+  heard_safely safe f = go (link_of p).safety refl
     where
-      go : (m : Mode) → (link_of p).mode ≡ m → Followed b event
-      go Basic e = false_true (sym (ap safe_in e) ∙ safe)
-      go (Safe s) e = f s e
+      go : (m : Option Safety) → (link_of p).safety ≡ m → Followed b event
+      go None e = false_true (sym (ap safe_in e) ∙ safe)
+      go (Some s) e = f s e
 
   heard_steps :
       (l : Listened)

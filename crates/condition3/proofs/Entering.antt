@@ -1,6 +1,6 @@
 -- A tick that enters a phase, function by function: the pump and the books agree behind it.
 -- Assumes nothing.
-use Rattle.std.specs.Prelude.{if◌then◌else◌}
+use Rattle.std.specs.Prelude.{if◌then◌else◌, is_some, Option, Some, None, is_none, IfSome}
 use Prim.Native.Nat.{ℕ, ◌+◌, ◌≤◌}
 use mathlib.Core.Path.{◌≡◌, refl, sym, ap, ◌∙◌, subst}
 use mathlib.Core.Bool.{Bool, true, false, not, ◌&&◌, ◌||◌}
@@ -17,9 +17,9 @@ use Rattle.words.specs.declared.functions.Function.{Function}
 use Rattle.words.specs.declared.functions.Function.TheVariants as f
 use Rattle.loops.specs.Loops as stored
 use Rattle.loops.specs.declared.Loop.{Loop}
+use Rattle.loops.specs.declared.Loops.{Loops}
 use Rattle.dispense.specs.Rates.{increase, decrease, is_usable_rate}
 use Rattle.dispense.specs.declared.rates.Rate.{Rate}
-use Rattle.dispense.specs.declared.rates.Rate.TheVariants.{Current}
 use Rattle.dispense.specs.declared.visits.Visit as stored-visit
 use Rattle.program.specs.Cores.{with_run, with_output}
 use Rattle.program.specs.Runs.{with_rate, with_loops, with_trap, doing, go_on, go_to, fire, raise, stop, is_visiting}
@@ -27,7 +27,7 @@ use Rattle.program.specs.declared.state.Mode.TheVariants.{Running}
 use Rattle.program.specs.declared.state.Run.{Run}
 use Rattle.program.specs.declared.state.Work.{Work}
 use Rattle.program.specs.declared.state.Work.TheVariants.{Entering, Visiting}
-use Rattle.tick.specs.Entering.{begin_visit, enter_rate, enter_pause, start_loop, pass_loop, end_loop, jump_if, arm_trap, clear_trap, enter_by, enter}
+use Rattle.tick.specs.Entering.{begin_visit, enter_rate, enter_pause, begun, start_loop, pass_loop, end_loop, jump_if, arm_trap, clear_trap, enter_by, enter}
 use Rattle.tick.specs.Ticks.{entered, output_after}
 use Rattle.tick.specs.declared.Moved.{Moved}
 use Rattle.soundness.proofs.Runs.{by_test}
@@ -43,7 +43,7 @@ use Rattle.condition3.specs.Books.{drops}
 use Rattle.condition3.specs.Books.{stored_in, is_usable_at, new_visit, is_whole, all_visits, doing_by, made_by, later, still_open, newest_loop}
 use Rattle.condition3.specs.Books.{older_loops, again, is_last}
 use Rattle.condition3.specs.Condition.{Fits, Entry}
-use Rattle.condition3.specs.Stored.{SameVisit, SameWork, is_set}
+use Rattle.condition3.specs.Stored.{SameVisit, SameWork}
 use Rattle.condition3.proofs.Loops as loops
 use Rattle.condition3.proofs.Noting.{Kept, Gone, makes_gone, gone_stopped}
 use Rattle.condition3.proofs.Ticks.{Stepped, stepped_by, moved, Silent, silent_beside, silent_ruled, silent_few, tick_drops}
@@ -91,7 +91,7 @@ module _ (p : Pump) (b : Books) (k : Kept p b) (runs : (run_of p).mode ≡ Runni
   abbrev seen_usable : Bool
   seen_usable = is_usable_at (view_of p).diameter (stored_in (view_of p).phase)
 
-  abbrev stored_rate_lem : Rate
+  abbrev stored_rate_lem : Option Rate
   stored_rate_lem = stored_in (here_of p)
 
   stored_seen : stored_in (view_of p).phase ≡ stored_rate_lem
@@ -104,7 +104,8 @@ module _ (p : Pump) (b : Books) (k : Kept p b) (runs : (run_of p).mode ≡ Runni
 
   usable_seen : seen_usable ≡ is_usable_rate (core_of p).syringe stored_rate_lem
   unfolding view_of
-  usable_seen = usable_same (core_of p).syringe (here_of p).rate (here_of p).unit
+  usable_seen =
+      usable_same (core_of p).syringe (record { unit = (here_of p).unit; thousandths = (here_of p).rate })
 
   -- what RAT does at a usable rate
   abbrev Sets : Run → Type 0
@@ -213,7 +214,7 @@ module _ (p : Pump) (b : Books) (k : Kept p b) (runs : (run_of p).mode ≡ Runni
         → leb (number h) 2 ≡ false
         → is_visiting r.place.work ≡ false
         → stored.opened r.loops ≡ reverse (turn h).0
-        → is_set r.trap ≡ (turn h).1
+        → is_some r.trap ≡ (turn h).1
         → Entry (event r) (view_of p) b.loops
         → Whole (behind r)
         → Stepped b (event r)
@@ -246,7 +247,7 @@ module _ (p : Pump) (b : Books) (k : Kept p b) (runs : (run_of p).mode ≡ Runni
         → leb (number h) 2 ≡ false
         → is_visiting r.place.work ≡ false
         → stored.opened r.loops ≡ loops_of p
-        → is_set r.trap ≡ is_set (run_of p).trap
+        → is_some r.trap ≡ is_some (run_of p).trap
         → turn h ≡ (b.loops, b.trap)
         → Entry (event r) (view_of p) b.loops
         → Whole (behind r)
@@ -357,25 +358,14 @@ module _ (p : Pump) (b : Books) (k : Kept p b) (runs : (run_of p).mode ≡ Runni
 
   starts : g ≡ f.Lps → Enters (start_loop (run_of p))
   unfolding start_loop
-  starts is =
-      by_test Enters (stored.lps (run_of p).loops current).full
-      (λ full w.
-      let r = raise (run_of p) Program in
-      stops r refl (ap (λ (x : Function). eqb (number x) 11) is) (turning r (view_stopped (behind r) ∙ sym full)) w)
-      (λ room w.
-      let r = go_on (with_loops (run_of p) (stored.lps (run_of p).loops current).loops) in
-      goes_on f.Lps is r going refl refl refl
-      (loops.lps_loops (run_of p).loops b.loops k.loops few current differ (sym full_is ∙ room))
-      k.trap
-      (turning r (view_stopped (behind r) ∙ going ∙ sym room))
-      w)
+  starts is = go (stored.lps (run_of p).loops current) refl
     where
-      full_is : (stored.lps (run_of p).loops current).full ≡ leb 3 (length (still_open current b.loops b.loops))
+      full_is : is_none (stored.lps (run_of p).loops current) ≡ leb 3 (length (still_open current b.loops b.loops))
       full_is = loops.lps_full (run_of p).loops b.loops k.loops few current differ
 
       turning :
           (r : Run)
-          → books.stops (event r) ≡ (stored.lps (run_of p).loops current).full
+          → books.stops (event r) ≡ is_none (stored.lps (run_of p).loops current)
           → Entry (event r) (view_of p) b.loops
       turning r h =
           record {
@@ -386,6 +376,19 @@ module _ (p : Pump) (b : Books) (k : Kept p b) (runs : (run_of p).mode ≡ Runni
             lop = λ z. absurd (omega (arith, ap number is, number_seen, z));
             lpe = λ z. absurd (omega (arith, ap number is, number_seen, z));
           }
+
+      go : (more : Option Loops) → stored.lps (run_of p).loops current ≡ more → Enters (begun (run_of p) more)
+      go None e w =
+          let r = raise (run_of p) Program in
+          stops r refl (ap (λ (x : Function). eqb (number x) 11) is) (turning r (view_stopped (behind r) ∙ sym (ap is_none e))) w
+      go (Some more) e w =
+          let r = go_on (with_loops (run_of p) more) in
+          goes_on f.Lps is r going refl refl refl
+          (subst (λ (x : Option Loops). IfSome x (λ l. stored.opened l ≡ reverse (record { begun = current; passes = 0 } ∷ still_open current b.loops b.loops)))
+          e (loops.lps_loops (run_of p).loops b.loops k.loops few current differ))
+          k.trap
+          (turning r (view_stopped (behind r) ∙ going ∙ sym (ap is_none e)))
+          w
 
   -- ---- RAT, INC and DEC: a visit begins, or an unusable rate stops the pump
   module _ (h : Function) (is : g ≡ h) (pumps : leb (number h) 2 ≡ true) where
@@ -446,7 +449,7 @@ module _ (p : Pump) (b : Books) (k : Kept p b) (runs : (run_of p).mode ≡ Runni
           fits = subst (λ (x : Doing). Every Fits (all_visits x b.past)) (sym one) (first_fits, past_fits);
           loops =
               ap stored.opened l ∙ k.loops ∙ ap (λ (x : List Loop × Bool). reverse x.0) (sym left ∙ turned_by h is);
-          trap = ap is_set t ∙ k.trap ∙ ap (λ (x : List Loop × Bool). x.1) (sym left ∙ turned_by h is);
+          trap = ap (is_some {T = ℕ}) t ∙ k.trap ∙ ap (λ (x : List Loop × Bool). x.1) (sym left ∙ turned_by h is);
           four = beside.four;
           line = beside.line;
           totals = beside.totals;
@@ -469,7 +472,7 @@ module _ (p : Pump) (b : Books) (k : Kept p b) (runs : (run_of p).mode ≡ Runni
     abbrev fresh : stored-visit.Visit
     fresh = record { given = 0; target = step_target (core_of p).syringe (here_of p).volume; store = 0 }
 
-    same : (rate : Rate) → SameVisit (behind (doing (with_rate (run_of p) rate) (Visiting fresh))) fresh first
+    same : (rate : Option Rate) → SameVisit (behind (doing (with_rate (run_of p) rate) (Visiting fresh))) fresh first
     unfolding first view_of
     same rate =
         record {
@@ -482,7 +485,7 @@ module _ (p : Pump) (b : Books) (k : Kept p b) (runs : (run_of p).mode ≡ Runni
           count = λ _. refl;
         }
 
-    opens : (rate : Rate) → (number h ≡ 0 → rate ≡ stored_rate_lem) → Enters (begin_visit (with_rate (run_of p) rate) (core_of p).syringe (here_of p))
+    opens : (rate : Option Rate) → (number h ≡ 0 → rate ≡ stored_rate_lem) → Enters (begin_visit (with_rate (run_of p) rate) (core_of p).syringe (here_of p))
     unfolding begin_visit
     opens rate sets =
         let small = ltb 0 (here_of p).volume && eqb (step_target (core_of p).syringe (here_of p).volume) 0 in
@@ -499,7 +502,7 @@ module _ (p : Pump) (b : Books) (k : Kept p b) (runs : (run_of p).mode ≡ Runni
         refl refl sets w)
 
     rates :
-        (rate : Rate)
+        (rate : Option Rate)
         → (number h ≡ 0 → rate ≡ stored_rate_lem)
         → Enters (enter_rate (run_of p) (core_of p).syringe (here_of p) rate)
     unfolding enter_rate
@@ -517,7 +520,7 @@ module _ (p : Pump) (b : Books) (k : Kept p b) (runs : (run_of p).mode ≡ Runni
   -- ---- any function
   enters_as : (h : Function) → g ≡ h → Enters (entered_as h)
   unfolding jump_if clear_trap
-  enters_as f.Rat is = rates f.Rat is refl (Current (here_of p).unit (here_of p).rate) (λ _. refl)
+  enters_as f.Rat is = rates f.Rat is refl (stored_in (here_of p)) (λ _. refl)
   enters_as f.Inc is = rates f.Inc is refl (increase (run_of p).rate (here_of p).rate) (λ z. absurd (omega (arith, z)))
   enters_as f.Dec is = rates f.Dec is refl (decrease (run_of p).rate (here_of p).rate) (λ z. absurd (omega (arith, z)))
   enters_as f.Stp is =

@@ -1,7 +1,7 @@
 -- What the link adds to the work of a tick: a packet with no byte for 500 ticks is dropped; with the last tick of the time limit alarm T
 -- stops the pump, once that work is done; and an alarm is sent. The pump and the books agree behind it.   (02, 2/12)
 -- Assumes nothing.
-use Rattle.std.specs.Prelude.{if◌then◌else◌}
+use Rattle.std.specs.Prelude.{if◌then◌else◌, Option, Some, None}
 use Prim.Native.Nat.{ℕ, ◌+◌, ◌*◌, ◌≤◌}
 use mathlib.Core.Path.{◌≡◌, refl, sym, ap, ap₂, ◌∙◌, subst}
 use mathlib.Core.Bool.{Bool, true, false, not, ◌&&◌, ◌||◌, or-true}
@@ -10,26 +10,23 @@ use lib.Dec.{eqb, leb}
 use lib.ListN.{length}
 use Rattle.base.proofs.Choices.{and_false, false_true}
 use Rattle.drive.specs.declared.directions.Direction.{Direction}
+use Rattle.words.specs.declared.answers.Alarm.{Alarm}
 use Rattle.words.specs.declared.answers.Alarm.TheVariants.{TimeOut}
 use Rattle.words.specs.declared.answers.Said.{Said}
 use Rattle.words.specs.declared.answers.Said.TheVariants as said
 use Rattle.program.specs.Runs.{pending}
 use Rattle.program.specs.declared.state.Core.{Core}
-use Rattle.program.specs.declared.state.Pending.{Pending}
-use Rattle.program.specs.declared.state.Pending.TheVariants.{NoAlarm, Raised}
 use Rattle.tick.specs.declared.Moved.{Moved}
 use Rattle.link.specs.Link as link
 use Rattle.link.specs.Link.{safe_in, left_in, ticks_left, fires, link_tick}
+use Rattle.link.specs.declared.Safety.{Safety}
 use Rattle.link.specs.declared.Link.{Link}
-use Rattle.link.specs.declared.Mode as link-mode
-use Rattle.link.specs.declared.Mode.TheVariants as mode
 use Rattle.answer.specs.Answers.{room, length_in, buffer_after}
 use Rattle.answer.specs.declared.frame.Frame.TheVariants.{Packet}
 use Rattle.pump.specs.Calls.{tick_at}
 use Rattle.pump.specs.Elapsing.{time_out, new_alarm, alarm_said, after_tick, sent}
 use Rattle.pump.specs.Holder.{with_device}
 use Rattle.pump.specs.declared.holder.Pump.{Pump}
-use Rattle.pump.specs.declared.reports.Refusal.TheVariants.{Accepted}
 use Rattle.pump.specs.declared.reports.Report.{Report}
 use Rattle.pump.proofs.Running.{sound_tick, sound_tick_buffer}
 use Rattle.statement.specs.Facts.{run_of}
@@ -88,7 +85,7 @@ module _ (p : Pump) (b : Books) (k : Kept p b) (m : Moved) (worked : Stepped b (
               withdrawn = m.withdrawn;
               beeps = if m.beep then 1 else 0;
               ticks = 1;
-              refusal = Accepted;
+              refusal = None;
               output = m.core.output;
             };
         buffer = after;
@@ -269,11 +266,11 @@ module _ (p : Pump) (b : Books) (k : Kept p b) (m : Moved) (worked : Stepped b (
 -- ---- the call
 fires_safe : (l : Link) → fires l ≡ true → link.is_safe l ≡ true
 unfolding fires ticks_left link.is_safe
-fires_safe l h = go l.mode refl
+fires_safe l h = go l.safety refl
   where
-    go : (x : link-mode.Mode) → l.mode ≡ x → safe_in x ≡ true
-    go mode.Basic e = false_true (ap (λ (y : link-mode.Mode). eqb (left_in y) 1) (sym e) ∙ h)
-    go (mode.Safe s) e = refl
+    go : (x : Option Safety) → l.safety ≡ x → safe_in x ≡ true
+    go None e = false_true (ap (λ (y : Option Safety). eqb (left_in y) 1) (sym e) ∙ h)
+    go (Some s) e = refl
 
 module _ (p : Pump) (b : Books) (k : Kept p b) (packet : SamePacket p.device.link b.packet b.quiet) (buffer : List ℕ)
     (roomy : room ≤ length buffer) where
@@ -299,10 +296,10 @@ module _ (p : Pump) (b : Books) (k : Kept p b) (packet : SamePacket p.device.lin
   safe = link.is_safe p.device.link
 
   -- an alarm is no answer to a command
-  no_command : (t s : Bool) → safe ≡ s → (x : Pending) → is_obeyed (ends t (if s then alarm_said x else said.Nothing)) ≡ false
+  no_command : (t s : Bool) → safe ≡ s → (x : Option Alarm) → is_obeyed (ends t (if s then alarm_said x else said.Nothing)) ≡ false
   no_command t false e x = unanswered (ends t said.Nothing) (told_length Packet said.Nothing buffer roomy)
-  no_command t true e NoAlarm = unanswered (ends t said.Nothing) (told_length Packet said.Nothing buffer roomy)
-  no_command t true e (Raised a) =
+  no_command t true e None = unanswered (ends t said.Nothing) (told_length Packet said.Nothing buffer roomy)
+  no_command t true e (Some a) =
       let event = ends t (said.Alarm a) in
       obeyed_as event (words_of (said.Alarm a))
       (words_read Packet (said.Alarm a) buffer roomy event (view_safe p k.whole.sound ∙ e) refl refl)
@@ -312,7 +309,7 @@ module _ (p : Pump) (b : Books) (k : Kept p b) (packet : SamePacket p.device.lin
   unfolding sent
   not_obeyed t =
       no_command t safe refl
-      (if fires p.device.link then Raised TimeOut else new_alarm (pending (run_of p)) (pending m.core.run))
+      (if fires p.device.link then Some TimeOut else new_alarm (pending (run_of p)) (pending m.core.run))
 
   -- alarm T is sent
   is_late : fires p.device.link ≡ true → timed_out (ends true says) ≡ true
@@ -323,7 +320,7 @@ module _ (p : Pump) (b : Books) (k : Kept p b) (packet : SamePacket p.device.lin
       let said_is : says ≡ said.Alarm TimeOut =
       ap₂
       (λ (s t : Bool).
-      if s then alarm_said (if t then Raised TimeOut else new_alarm (pending (run_of p)) (pending m.core.run)) else said.Nothing)
+      if s then alarm_said (if t then Some TimeOut else new_alarm (pending (run_of p)) (pending m.core.run)) else said.Nothing)
       on h
       in
       timed_out_lem (ends true says) seen

@@ -1,6 +1,6 @@
 -- LPS, LOP and LPE do to the stored loops, the oldest first, what the observer does to his, the newest first.
 -- Assumes nothing.
-use Rattle.std.specs.Prelude.{if◌then◌else◌}
+use Rattle.std.specs.Prelude.{if◌then◌else◌, Option, is_none, IfSome}
 use Prim.Native.Nat.{ℕ, ◌+◌, ◌≤◌, ◌<◌}
 use mathlib.Core.Path.{◌≡◌, refl, sym, ap, ◌∙◌, subst}
 use mathlib.Core.Bool.{Bool, true, false}
@@ -13,7 +13,6 @@ use Rattle.loops.specs.Loops as stored
 use Rattle.loops.specs.Loops.{no_loop, opened, in_slots}
 use Rattle.loops.specs.declared.Loop.{Loop}
 use Rattle.loops.specs.declared.Loops.{Loops}
-use Rattle.loops.specs.declared.Began.{Began}
 use Rattle.loops.specs.declared.Turn.{Turn}
 use Rattle.loops.proofs.Places.{opened_holding}
 use Rattle.soundness.proofs.Runs.{by_test}
@@ -187,18 +186,24 @@ module _ (l : Loops) (ls : List Loop) (e : opened l ≡ reverse ls) (few : lengt
     open_count : length (stored.before n (opened l)) ≡ length (still_open n ls ls)
     open_count = ap length open_same ∙ length-reverse (still_open n ls ls)
 
-    pub lps_full : (stored.lps l n).full ≡ leb 3 (length (still_open n ls ls))
+    abbrev room : Bool
+    room = leb 3 (length (stored.before n (opened l)))
+
+    room_same : room ≡ leb 3 (length (still_open n ls ls))
+    room_same = ap (leb 3) open_count
+
+    pub lps_full : is_none (stored.lps l n) ≡ leb 3 (length (still_open n ls ls))
     unfolding stored.lps
     lps_full =
-        by_test (λ (x : Began). x.full ≡ leb 3 (length (still_open n ls ls))) (leb 3 (length (stored.before n (opened l))))
-        (λ h. sym (ap (leb 3) (sym open_count) ∙ h)) (λ h. sym (ap (leb 3) (sym open_count) ∙ h))
+        by_test (λ (x : Option Loops). is_none x ≡ leb 3 (length (still_open n ls ls))) room
+        (λ h. sym (sym room_same ∙ h)) (λ h. sym (sym room_same ∙ h))
 
     pub lps_loops :
-        leb 3 (length (still_open n ls ls)) ≡ false
-        → opened (stored.lps l n).loops ≡ reverse (record { begun = n; passes = 0 } ∷ still_open n ls ls)
+        IfSome (stored.lps l n) (λ more. opened more ≡ reverse (record { begun = n; passes = 0 } ∷ still_open n ls ls))
     unfolding stored.lps
-    lps_loops h =
-        let room : leb 3 (length (stored.before n (opened l))) ≡ false = ap (leb 3) open_count ∙ h in
-        rw room
-        (held (stored.before n (opened l)) (still_open n ls ls) _ open_same
-        (let k = leb-false 3 (length (still_open n ls ls)) h in omega arith))
+    lps_loops =
+        by_test (λ (x : Option Loops). IfSome x (λ more. opened more ≡ reverse (record { begun = n; passes = 0 } ∷ still_open n ls ls)))
+        room (λ _. tt)
+        (λ h.
+        held (stored.before n (opened l)) (still_open n ls ls) _ open_same
+        (let k = leb-false 3 (length (still_open n ls ls)) (sym room_same ∙ h) in omega arith))

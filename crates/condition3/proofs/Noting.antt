@@ -1,7 +1,7 @@
 -- The books behind an accepted call, by what a tick did and by whether what is under way is dropped; and what is to be shown for the pump
 -- and the books to agree behind it.
 -- Assumes nothing.
-use Rattle.std.specs.Prelude.{if◌then◌else◌}
+use Rattle.std.specs.Prelude.{if◌then◌else◌, is_some}
 use Prim.Native.Nat.{ℕ, ◌+◌, ◌*◌, ◌/◌, ◌<◌}
 use mathlib.Core.Path.{◌≡◌, refl, sym, ap, ap₂, ◌∙◌, subst}
 use mathlib.Core.Bool.{Bool, true, false, not, ◌&&◌, ◌||◌}
@@ -32,7 +32,7 @@ use Rattle.condition3.specs.Books.{Books, Visit, Doing, nothing, visiting, Deed,
 use Rattle.condition3.specs.Books.{doing_by, made_by, four_after, line_after, packet_after, quiet_after, is_safe, clears, told, step_at}
 use Rattle.condition3.specs.Books.{view_of, volume_at, is_obeyed, asked, fires_by, stops}
 use Rattle.condition3.specs.Condition.{Fits}
-use Rattle.condition3.specs.Stored.{SameVisit, SameWork, is_set}
+use Rattle.condition3.specs.Stored.{SameVisit, SameWork}
 use Rattle.condition3.proofs.Views.{is_stopped_in, view_stopped}
 
 -- ---- the books behind an accepted call
@@ -94,7 +94,7 @@ pub record Kept (p : Pump) (b : Books) : Type 0 where
   pub work : SameWork p (under_way p) b.doing
   pub fits : Every Fits (all_visits b.doing b.past)
   pub loops : loops_of p ≡ reverse b.loops
-  pub trap : is_set (run_of p).trap ≡ b.trap
+  pub trap : is_some (run_of p).trap ≡ b.trap
   pub four : (core_of p).pins.four ≡ b.four
   pub line : p.device.line ≡ collect empty_line b.line
   pub totals : (d : Direction) → total_of (core_of p).ledger d ≡ b.given d
@@ -104,7 +104,7 @@ pub record Makes (b : Books) (e : Event) (q : Pump) (done : Deed) (t : Bool) : T
   pub work : SameWork q (under_way q) (entry b e done t).doing
   pub fits : Every Fits (all_visits (doing_by b.doing e done) b.past)
   pub loops : loops_of q ≡ reverse (entry b e done t).loops
-  pub trap : is_set (run_of q).trap ≡ (entry b e done t).trap
+  pub trap : is_some (run_of q).trap ≡ (entry b e done t).trap
   pub four : (core_of q).pins.four ≡ four_after b.four e.call
   pub line : q.device.line ≡ collect empty_line (line_after b.line (is_safe (view_of e.before)) e.call)
   pub totals : (d : Direction) → total_of (core_of q).ledger d ≡ (entry b e done t).given d
@@ -175,7 +175,7 @@ not_whole p b k = go (under_way p) b.doing refl k.work
 pub record Gone (q : Pump) : Type 0 where
   pub work : under_way q ≡ Entering
   pub loops : loops_of q ≡ []
-  pub trap : is_set (run_of q).trap ≡ false
+  pub trap : is_some (run_of q).trap ≡ false
 
 pub gone_stopped : (q : Pump) → Whole q → is_stopped_in (run_of q).mode ≡ true → Gone q
 gone_stopped q w h = go (run_of q).mode refl h
@@ -183,7 +183,7 @@ gone_stopped q w h = go (run_of q).mode refl h
     go : (m : Mode) → (run_of q).mode ≡ m → is_stopped_in m ≡ true → Gone q
     go (Stopped alarm) e h =
         let n : Nothing (run_of q) = (sound_facts q w.sound).stopped alarm e in
-        record { work = n.no_work; loops = ap (λ (k : ℕ). take k (run_of q).loops.slots) n.no_loop; trap = ap is_set n.no_trap }
+        record { work = n.no_work; loops = ap (λ (k : ℕ). take k (run_of q).loops.slots) n.no_loop; trap = ap (is_some {T = ℕ}) n.no_trap }
     go Paused e h = false_true h
     go Running e h = false_true h
 
@@ -218,7 +218,7 @@ module _ (b : Books) (e : Event) (q : Pump) (s : Beside b e q) where
       → Kept p b
       → SameWork q (under_way q) b.doing
       → loops_of q ≡ loops_of p
-      → is_set (run_of q).trap ≡ is_set (run_of p).trap
+      → is_some (run_of q).trap ≡ is_some (run_of p).trap
       → Makes b e q other false
   makes_same p k w l t =
       record {

@@ -1,7 +1,8 @@
 -- One command. CLD and *RESET alone touch a total, and are told by their reply; RUN n starts afresh, and is told by its reply; behind every
 -- other the pump is stopped, or the program goes on as it was, in a phase that is the same to the visit under way.
 -- Assumes nothing.
-use Rattle.std.specs.Prelude.{if◌then◌else◌}
+use Rattle.std.specs.Prelude.{Option, unwrap_or, Result, Ok, Err, is_ok, ⊤, if◌then◌else◌, is_some}
+use Rattle.std.specs.Result.{result_unwrap_or}
 use Prim.Native.Nat.{ℕ, ◌≤◌}
 use mathlib.Core.Path.{◌≡◌, refl, sym, ap, ◌∙◌}
 use mathlib.Core.Bool.{Bool, true, false, ◌&&◌, ◌||◌, not}
@@ -14,37 +15,36 @@ use Rattle.drive.specs.Syringe.{is_diameter}
 use Rattle.drive.specs.Directions.{reverse}
 use Rattle.drive.specs.declared.directions.Direction.{Direction}
 use Rattle.drive.specs.declared.directions.Direction.TheVariants.{Infuse, Withdraw}
+use Rattle.drive.specs.declared.rates.RateUnit.{RateUnit}
+use Rattle.words.specs.Answers.{declined}
 use Rattle.words.specs.Commands.{clear_number, command_number, asks_to_clear, is_reset}
 use Rattle.words.specs.Functions.{fits, is_phase, is_rate_phase}
+use Rattle.words.specs.declared.answers.Declined.{Declined}
+use Rattle.words.specs.declared.answers.Declined.TheVariants.{NotApplicable, OutOfRange}
 use Rattle.words.specs.declared.answers.Reply.{Reply}
 use Rattle.words.specs.declared.answers.Reply.TheVariants as reply
 use Rattle.words.specs.declared.commands.Command.{Command}
 use Rattle.words.specs.declared.commands.Command.TheVariants as c
-use Rattle.words.specs.declared.commands.Units.{Units}
 use Rattle.words.specs.declared.functions.Function.{Function}
 use Rattle.words.specs.declared.phases.Phase.{Phase}
 use Rattle.loops.specs.Loops.{opened}
 use Rattle.dispense.specs.Ledgers.{total_of, clear}
 use Rattle.dispense.specs.declared.ledgers.Ledger.{Ledger}
-use Rattle.program.specs.Control.{accept, decline, run_on, run_from, stop_now}
+use Rattle.program.specs.Control.{run_on, run_from, stop_now}
 use Rattle.program.specs.Cores.{with_run, with_ledger, with_syringe, with_chosen}
 use Rattle.program.specs.Runs.{start, is_operating}
-use Rattle.program.specs.declared.control.Steered.{Steered}
 use Rattle.program.specs.declared.state.Core.{Core}
 use Rattle.program.specs.declared.state.Run.{Run}
 use Rattle.program.specs.declared.state.Work.TheVariants.{Entering}
-use Rattle.command.specs.Judging.{if_in_range, judge_idle, judge_diameter, judge_volume, judge_tuning, judge_stored, unit_or}
+use Rattle.command.specs.Judging.{if_in_range, judge_idle, judge_diameter, judge_volume, judge_tuning, judge_stored}
 use Rattle.command.specs.Judging.{judge_direction, judge_phase, judge_function}
 use Rattle.command.specs.Obeying.{answer, steer, decide, settle, set_diameter, tune, set_rate, set_phase_to, choose, clear_total, reset, obey}
 use Rattle.command.specs.Phases.{with_stored, with_volume, with_direction, with_function}
 use Rattle.command.specs.Queries.{ask_rate, ask_volume, ask_phase, ask_totals}
-use Rattle.command.specs.declared.judging.Verdict.{Verdict}
-use Rattle.command.specs.declared.judging.Verdict.TheVariants.{Accepted, NotApplicable, OutOfRange}
 use Rattle.command.specs.declared.obeying.Edit.{Edit}
 use Rattle.command.specs.declared.obeying.Edit.TheVariants.{Keep, Write, Renew}
 use Rattle.command.specs.declared.obeying.Obeyed.{Obeyed}
 use Rattle.soundness.proofs.Runs.{by_test}
-use Rattle.condition3.specs.Stored.{is_set}
 use Rattle.condition3.proofs.Quiet.{Alike}
 use Rattle.condition3.proofs.Turning.{TurnsTo, keeps, Calm, turns_run, turns_stop, turns_tune, turns_settle, settle_halts}
 use Rattle.condition3.proofs.Turning.{run_on_lem, stop_on, settle_on, tune_on}
@@ -96,7 +96,7 @@ module _ (s : Core) (p : Phase) (calm : Calm s.run) where
         → o.reply ≡ reply.Status
         → o.core.run.place.work ≡ Entering
         → opened o.core.run.loops ≡ []
-        → is_set o.core.run.trap ≡ false
+        → is_some o.core.run.trap ≡ false
         → Moves command o
 
   -- in I or W nothing but *RESET stops the pump
@@ -137,38 +137,39 @@ module _ (s : Core) (p : Phase) (calm : Calm s.run) where
       answers : (r : Reply) → Deed command (answer s r)
       answers r = leaves (answer s r) refl refl still_on (goes other (λ _. spares_same))
 
-      steers : (x : Steered) → TurnsTo s.run x.run → Runs (with_run s x.run) → Deed command (steer s x)
-      steers x k on = leaves (steer s x) refl refl on (goes other (λ _. record { run = k; syringe = refl; phase = tt }))
+      steers :
+          (x : Result Run Declined)
+          → TurnsTo s.run (result_unwrap_or x s.run)
+          → Runs (with_run s (result_unwrap_or x s.run))
+          → Deed command (steer s x)
+      steers (Ok r) k on = leaves (steer s (Ok r)) refl refl on (goes other (λ _. record { run = k; syringe = refl; phase = tt }))
+      steers (Err why) k on = answers (declined why)
 
       decides :
-          (t : Core) (edit : Edit) (v : Verdict)
+          (t : Core) (edit : Edit) (v : Result ⊤ Declined)
           → t.ledger ≡ s.ledger
           → t.pins ≡ s.pins
           → Runs t
-          → (v ≡ Accepted → is_stopped_in t.run.mode ≡ false → Spares t edit)
+          → (v ≡ Ok tt → is_stopped_in t.run.mode ≡ false → Spares t edit)
           → Deed command (decide s t edit v)
-      decides t edit Accepted e pins on k = leaves _ e pins on (goes other (k refl))
-      decides t edit NotApplicable e pins on k = answers reply.NotApplicable
-      decides t edit OutOfRange e pins on k = answers reply.OutOfRange
+      decides t edit (Ok x) e pins on k = leaves _ e pins on (goes other (k refl))
+      decides t edit (Err why) e pins on k = answers (declined why)
 
       -- a setting that does not apply while operating: behind it the pump is stopped
       stopping :
-          (t : Core) (edit : Edit) (v : Verdict)
+          (t : Core) (edit : Edit) (v : Result ⊤ Declined)
           → t.ledger ≡ s.ledger
           → t.pins ≡ s.pins
           → t.run ≡ settle s.run
-          → (v ≡ Accepted → is_operating s.run ≡ false)
+          → (v ≡ Ok tt → is_operating s.run ≡ false)
           → Deed command (decide s t edit v)
       stopping t edit v e pins run k =
           decides t edit v e pins (λ h. ap (λ (r : Run). is_stopped_in r.mode) run ∙ settle_on s.run h)
           (λ a on. false_true (sym on ∙ ap (λ (r : Run). is_stopped_in r.mode) run ∙ settle_halts s.run (k a)))
 
   -- ---- what does not apply while operating is accepted only of a pump that does not operate
-  idle_by : (t : Bool) (v : Verdict) → (if t then NotApplicable else v) ≡ Accepted → t ≡ false
-  idle_by true v e = absurd (never e)
-    where
-      never : NotApplicable ≡ Accepted → ⊥
-      never e = let z : ◌≡◌ {A = ℕ} 0 1 = cc in omega arith
+  idle_by : (t : Bool) (v : Result ⊤ Declined) → (if t then Err NotApplicable else v) ≡ Ok tt → t ≡ false
+  idle_by true v e = false_true (ap is_ok e)
   idle_by false v e = refl
 
   diameter_deed : (x : ℕ) → Deed (c.SetDiameter x) (set_diameter s x)
@@ -177,10 +178,10 @@ module _ (s : Core) (p : Phase) (calm : Calm s.run) where
       stopping (omega arith) refl (with_syringe (with_run s (settle s.run)) (record { diameter = x })) Keep _ refl refl refl
       (idle_by (is_operating s.run) (if_in_range (is_diameter x)))
 
-  volume_idle : (t u : Bool) → (if t && not u then Accepted else NotApplicable) ≡ Accepted → u ≡ false
+  volume_idle : (t u : Bool) → ◌≡◌ {A = Result ⊤ Declined} (if t && not u then Ok tt else Err NotApplicable) (Ok tt) → u ≡ false
   volume_idle t false e = refl
-  volume_idle true true e = idle_by true Accepted e
-  volume_idle false true e = idle_by true Accepted e
+  volume_idle true true e = idle_by true (Ok tt) e
+  volume_idle false true e = idle_by true (Ok tt) e
 
   volume_deed : (x : ℕ) → Deed (c.SetVolume x) (set_phase_to s (with_volume p x) (judge_volume (is_operating s.run) p))
   unfolding judge_volume
@@ -197,14 +198,14 @@ module _ (s : Core) (p : Phase) (calm : Calm s.run) where
       (idle_by (is_operating s.run) (if_in_range (fits phases g)))
 
   -- ---- RAT
-  rate_deed : (next : Function) (x : ℕ) (units : Units) → Deed (c.SetRate x units) (set_rate s p next x units)
+  rate_deed : (next : Function) (x : ℕ) (units : Option RateUnit) → Deed (c.SetRate x units) (set_rate s p next x units)
   unfolding set_rate
   rate_deed next x units =
       by_test (Deed (c.SetRate x units)) (is_operating s.run)
       (λ _. decides (omega arith) refl (with_run s (tune s.run x)) Keep (judge_tuning s.run s.syringe p next x units) refl refl
       (λ h. tune_on s.run h x)
       (λ _ _. record { run = turns_tune s.run x; syringe = refl; phase = tt }))
-      (λ idle. stopping (omega arith) refl (with_run s (settle s.run)) (Write (with_stored p x (unit_or units p.unit)))
+      (λ idle. stopping (omega arith) refl (with_run s (settle s.run)) (Write (with_stored p x (unwrap_or units p.unit)))
       (judge_stored s.syringe p x units) refl refl refl (λ _. idle))
 
   -- ---- DIR: of a visit under way only where it is continuous
@@ -222,9 +223,9 @@ module _ (s : Core) (p : Phase) (calm : Calm s.run) where
           → is_operating s.run ≡ t
           → (u : Bool)
           → (is_rate_phase p.function && eqb p.volume 0) ≡ u
-          → Deed command (set_phase_to s (with_direction p way) (if t && not u then NotApplicable else Accepted))
+          → Deed command (set_phase_to s (with_direction p way) (if t && not u then Err NotApplicable else Ok tt))
       go true e true h =
-          decides low other (with_run s (settle s.run)) (Write (with_direction p way)) Accepted refl refl (settle_on s.run)
+          decides low other (with_run s (settle s.run)) (Write (with_direction p way)) (Ok tt) refl refl (settle_on s.run)
           (λ _ _.
           record {
             run = turns_settle s.run;
@@ -236,22 +237,22 @@ module _ (s : Core) (p : Phase) (calm : Calm s.run) where
                 };
           })
       go true e false h = answers low other reply.NotApplicable
-      go false e u h = stopping low other (with_run s (settle s.run)) (Write (with_direction p way)) Accepted refl refl refl (λ _. e)
+      go false e u h = stopping low other (with_run s (settle s.run)) (Write (with_direction p way)) (Ok tt) refl refl refl (λ _. e)
 
   -- ---- RUN n
   from_deed : (n phases : ℕ) → Deed (c.RunFrom n) (steer s (run_from s.run n phases))
   unfolding run_from
   from_deed n phases =
-      by_test Froms (is_operating s.run) (λ _. declined reply.NotApplicable refl)
+      by_test Froms (is_operating s.run) (λ _. declines_as NotApplicable refl)
       (λ _. by_test Froms (is_phase phases n)
-      (λ _. leaves (omega arith) (steer s (accept (start n))) refl refl (λ _. refl) (restarts refl refl refl refl refl))
-      (λ _. declined reply.OutOfRange refl))
+      (λ _. leaves (omega arith) (steer s (Ok (start n))) refl refl (λ _. refl) (restarts refl refl refl refl refl))
+      (λ _. declines_as OutOfRange refl))
     where
-      Froms : Steered → Type 0
+      Froms : Result Run Declined → Type 0
       Froms x = Deed (c.RunFrom n) (steer s x)
 
-      declined : (r : Reply) → is_error r ≡ true → Froms (decline s.run r)
-      declined r e = leaves (omega arith) (steer s (decline s.run r)) refl refl still_on (declines e spares_same)
+      declines_as : (why : Declined) → is_error (declined why) ≡ true → Froms (Err why)
+      declines_as why e = leaves (omega arith) (steer s (Err why)) refl refl still_on (declines e spares_same)
 
   -- ---- CLD
   cleared :
@@ -269,7 +270,7 @@ module _ (s : Core) (p : Phase) (calm : Calm s.run) where
   clear_deed : (way : Direction) → Deed (c.Clear way) (clear_total s way)
   unfolding clear_total judge_idle
   clear_deed way =
-      by_test (λ (v : Verdict). Deed (c.Clear way) (decide s (with_ledger s (clear s.ledger way)) Keep v)) (is_operating s.run)
+      by_test (λ (v : Result ⊤ Declined). Deed (c.Clear way) (decide s (with_ledger s (clear s.ledger way)) Keep v)) (is_operating s.run)
       (λ _.
       record {
         left = λ d. not_now refl refl;

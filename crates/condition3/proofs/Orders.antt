@@ -6,28 +6,22 @@
 --     reset_as_asked    what asks the engine for *RESET he takes for it
 --     collected_more    a line that has collected one byte more is the line after that byte
 -- Assumes nothing.
-use Rattle.std.specs.Prelude.{if◌then◌else◌}
+use Rattle.std.specs.Prelude.{if◌then◌else◌, Option, Some, None}
 use Prim.Native.Nat.compare
 use Prim.Native.Nat.{ℕ, ◌+◌, ◌≤◌, ◌<◌}
 use mathlib.Core.Path.{◌≡◌, refl, sym, ap, subst, ◌∙◌}
 use mathlib.Core.Logic.{◌⊎◌, inl, inr}
 use mathlib.Core.Bool.{Bool, true, false, ◌&&◌, ◌||◌, or-false, or-true}
-use mathlib.Core.List.{List, [], ◌∷◌, ◌++◌, append-nil}
+use mathlib.Core.List.{List, [], ◌∷◌, ◌++◌}
 use native.Mathlib.Omega.{arith}
 use lib.Dec.{leb, ltb, eqb}
-use lib.ListN.{length, drop, drop_of_length-le}
+use lib.ListN.{length, drop}
 use lib.Seq.{take_all}
 use borrow.Author.Tests.{eqb-true, eqb-false, ne_eqb, eq-eqb, ltb-true, ltb-false, lt-ltb, le-ltb}
 use Rattle.base.specs.Text.{text}
 use Rattle.base.proofs.Choices.{and_left, and_right, and_false, false_true}
 use Rattle.decimal.specs.Read.{is_digit, read}
 use Rattle.decimal.specs.Short.{read_one, read_two, read_tenths, read_three}
-use Rattle.decimal.specs.declared.input.Reading.{Reading}
-use Rattle.decimal.specs.declared.input.Reading.TheVariants.{Number, NoNumber}
-use Rattle.decimal.specs.declared.short.Short.{Short}
-use Rattle.decimal.specs.declared.short.Short.TheVariants.{Digits, NoDigits}
-use Rattle.decimal.specs.declared.short.Three.{Three}
-use Rattle.decimal.specs.declared.short.Three.TheVariants as three
 use Rattle.drive.specs.declared.directions.Direction.{Direction}
 use Rattle.drive.specs.declared.directions.Direction.TheVariants.{Infuse, Withdraw}
 use Rattle.words.specs.Commands.{command_number, asks_to_clear, clear_number, is_reset}
@@ -40,22 +34,20 @@ use Rattle.words.specs.declared.commands.Request.{Request}
 use Rattle.words.specs.declared.commands.Request.TheVariants as request
 use Rattle.line.specs.Addresses.{address_width, unaddressed}
 use Rattle.line.specs.Arguments as asked
-use Rattle.line.specs.Arguments.{or_query, if_number, if_digits, unless_more}
+use Rattle.line.specs.Arguments.{or_query, if_number, unless_more}
 use Rattle.line.specs.Functions as functions
 use Rattle.line.specs.Collected.{collect, Holds}
-use Rattle.line.specs.Commands.{asked_by, command_of}
+use Rattle.line.specs.Commands.{asked_by, asked_of_name, command_of}
 use Rattle.line.specs.Lines.{empty_line, after_byte}
-use Rattle.line.specs.Names.{names, name_among, name_of, letters_of, argument_of}
+use Rattle.line.specs.Names.{names, name_among, name_of, letters_of, letters_led, argument_of}
 use Rattle.line.specs.Requests.{limit_by, limit_asked, request_of, asked_of, asked_in}
 use Rattle.line.specs.Spelling.{leads, is_text}
 use Rattle.line.specs.declared.arguments.Heading.{Heading}
 use Rattle.line.specs.declared.arguments.Heading.TheVariants as heading
-use Rattle.line.specs.declared.functions.Called.{Called}
-use Rattle.line.specs.declared.functions.Called.TheVariants.{By, NoFunction}
 use Rattle.line.specs.declared.lines.Line.{Line}
 use Rattle.line.specs.declared.names.Name.{Name}
 use Rattle.line.specs.declared.names.Name.TheVariants as n
-use Rattle.line.proofs.Leading.{leads_is}
+use Rattle.line.proofs.Leading.{leads_is, word_is}
 use Rattle.line.proofs.Naming.{name_is}
 use Rattle.condition3.specs.Books.{of_way, past_digit}
 
@@ -127,16 +119,8 @@ same_front [] word s = refl
 same_front (x ∷ a) word s =
     simp (compare.suc-suc (length (a ++ s)) (length (a ++ word)), eq-eqb x x refl) (same_front a word s)
 
-text_is : (word s : List ℕ) → is_text word s ≡ true → s ≡ word
-unfolding is_text
-text_is word s e =
-    let long : length s ≡ length word = eqb-true (length s) (length word) (and_left (eqb (length s) (length word)) (leads word s) e) in
-    leads_is word s (and_right (eqb (length s) (length word)) (leads word s) e)
-    ∙ ap (λ (t : List ℕ). word ++ t) (drop_of_length-le s {i = length word} (omega arith))
-    ∙ append-nil word
-
 -- its name leads a text, and the argument follows; where the name is unknown, none of the names leads it
-among_leads : (ns : List Name) (s : List ℕ) → leads (letters_of (name_among ns s)) s ≡ true
+among_leads : (ns : List Name) (s : List ℕ) → leads (letters_led (name_among ns s)) s ≡ true
 unfolding leads
 among_leads [] s = refl
 among_leads (m ∷ ns) s = go (leads (letters_of m) s) refl (among_leads ns s)
@@ -144,23 +128,20 @@ among_leads (m ∷ ns) s = go (leads (letters_of m) s) refl (among_leads ns s)
     go :
         (t : Bool)
         → leads (letters_of m) s ≡ t
-        → leads (letters_of (name_among ns s)) s ≡ true
-        → leads (letters_of (if t then m else name_among ns s)) s ≡ true
+        → leads (letters_led (name_among ns s)) s ≡ true
+        → leads (letters_led (if t then Some m else name_among ns s)) s ≡ true
     go true e h = e
     go false e h = h
 
-name_and_argument : (s : List ℕ) → s ≡ letters_of (name_of s) ++ argument_of s
+name_and_argument : (s : List ℕ) → s ≡ letters_led (name_of s) ++ argument_of s
 unfolding name_of argument_of
-name_and_argument s = leads_is (letters_of (name_of s)) s (among_leads names s)
+name_and_argument s = leads_is (letters_led (name_of s)) s (among_leads names s)
 
-unknown_leads : (s : List ℕ) (m : Name) → name_of s ≡ n.Unknown → 0 < length (letters_of m) → leads (letters_of m) s ≡ false
-unknown_leads s m e h = go (leads (letters_of m) s) refl
+unknown_leads : (s : List ℕ) (m : Name) → name_of s ≡ None → leads (letters_of m) s ≡ false
+unknown_leads s m e = go (leads (letters_of m) s) refl
   where
-    known : m ≡ n.Unknown → ⊥
-    known k = omega (arith, ap (λ (x : Name). length (letters_of x)) k)
-
     go : (t : Bool) → leads (letters_of m) s ≡ t → t ≡ false
-    go true k = absurd (known (sym (name_is m s known k) ∙ e))
+    go true k = let z : Some m ≡ None = sym (name_is m s k) ∙ e in cc
     go false k = refl
 
 -- ---- what asks neither to clear nor to start
@@ -171,13 +152,9 @@ either : (t : Bool) (a b : Command) → Apart a → Apart b → Apart (if t then
 either true a b p q = p
 either false a b p q = q
 
-if_number_lem : (setting : ℕ → Command) (r : Reading) → ((x : ℕ) → Apart (setting x)) → Apart (if_number setting r)
-if_number_lem setting (Number x) p = p x
-if_number_lem setting NoNumber p = refl
-
-if_digits_lem : (setting : ℕ → Command) (r : Short) → ((x : ℕ) → Apart (setting x)) → Apart (if_digits setting r)
-if_digits_lem setting (Digits x) p = p x
-if_digits_lem setting NoDigits p = refl
+if_number_lem : (setting : ℕ → Command) (r : Option ℕ) → ((x : ℕ) → Apart (setting x)) → Apart (if_number setting r)
+if_number_lem setting (Some x) p = p x
+if_number_lem setting None p = refl
 
 unless_more_lem : (s : List ℕ) (command : Command) → Apart command → Apart (unless_more s command)
 unfolding unless_more
@@ -187,16 +164,16 @@ module _ (s : List ℕ) where
   alone : (g : Function) → Apart (unless_more s (c.SetFunction g))
   alone g = unless_more_lem s (c.SetFunction g) refl
 
-  held : (g : ℕ → Function) (r : Short) → Apart (if_digits (λ k. c.SetFunction (g k)) r)
-  held g r = if_digits_lem (λ k. c.SetFunction (g k)) r (λ k. refl)
+  held : (g : ℕ → Function) (r : Option ℕ) → Apart (if_number (λ k. c.SetFunction (g k)) r)
+  held g r = if_number_lem (λ k. c.SetFunction (g k)) r (λ k. refl)
 
   pause : Apart (functions.pause_asked s)
   unfolding functions.pause_asked
   pause = go (read_two s)
     where
-      go : (r : Short) → Apart (functions.pause_by r (read_tenths s))
-      go (Digits k) = refl
-      go NoDigits = held f.Tenths (read_tenths s)
+      go : (r : Option ℕ) → Apart (functions.pause_by r (read_tenths s))
+      go (Some k) = refl
+      go None = held f.Tenths (read_tenths s)
 
   with_datum_lem : (g : Function) → Apart (functions.with_datum g s)
   with_datum_lem f.Rat = alone f.Rat
@@ -216,14 +193,14 @@ module _ (s : List ℕ) where
   with_datum_lem (f.Out k) = held f.Out (read_one s)
 
 module _ (s : List ℕ) where
-  function_by_lem : (g : Called) → Apart (functions.function_by g s)
-  function_by_lem (By g) = with_datum_lem (drop (length (function_name g)) s) g
-  function_by_lem NoFunction = refl
+  function_by_lem : (g : Option Function) → Apart (functions.function_by g s)
+  function_by_lem (Some g) = with_datum_lem (drop (length (function_name g)) s) g
+  function_by_lem None = refl
 
-  heading_by : (h : Heading) → Apart (asked.direction_by h)
-  heading_by (heading.To d) = refl
-  heading_by heading.Reverse = refl
-  heading_by heading.NoHeading = refl
+  heading_by : (h : Option Heading) → Apart (asked.direction_by h)
+  heading_by (Some (heading.To d)) = refl
+  heading_by (Some heading.Reverse) = refl
+  heading_by None = refl
 
   query : (asks sets : Command) → Apart asks → Apart sets → Apart (or_query asks s sets)
   query asks sets p q = either (eqb (length s) 0) asks sets p q
@@ -249,7 +226,7 @@ module _ (s : List ℕ) where
 
   phase : Apart (asked.phase_asked s)
   unfolding asked.phase_asked
-  phase = query c.AskPhase (if_digits c.SetPhase (read_two s)) refl (if_digits_lem c.SetPhase (read_two s) (λ k. refl))
+  phase = query c.AskPhase (if_number c.SetPhase (read_two s)) refl (if_number_lem c.SetPhase (read_two s) (λ k. refl))
 
   function : Apart (functions.function_asked s)
   unfolding functions.function_asked
@@ -311,7 +288,7 @@ unfolding asked.clear_asked asked.heading_of
 clear_agree t = go (is_text (text "INF") t) (is_text (text "WDR") t) (is_text (text "REV") t) refl refl
   where
     found : (d : Direction) → is_text (direction_letters d) t ≡ true → Agree (text "CLD" ++ t) (c.Clear d)
-    found d e = subst (λ (s : List ℕ). Agree (text "CLD" ++ s) (c.Clear d)) (sym (text_is (direction_letters d) t e)) (clear_direction d)
+    found d e = subst (λ (s : List ℕ). Agree (text "CLD" ++ s) (c.Clear d)) (sym (word_is (direction_letters d) t e)) (clear_direction d)
 
     go :
         (a b r : Bool)
@@ -319,7 +296,7 @@ clear_agree t = go (is_text (text "INF") t) (is_text (text "WDR") t) (is_text (t
         → is_text (text "WDR") t ≡ b
         → Agree (text "CLD" ++ t)
         (asked.clear_by
-        (if a then heading.To Infuse else if b then heading.To Withdraw else if r then heading.Reverse else heading.NoHeading))
+        (if a then Some (heading.To Infuse) else if b then Some (heading.To Withdraw) else if r then Some heading.Reverse else None))
     go true b r p q = found Infuse p
     go false true r p q = found Withdraw q
     go false false true p q = clear_other t p q
@@ -344,48 +321,49 @@ run_agree t = go (eqb (length t) 0) (read_two t) refl
     silent : (d : Direction) → clears_by d (text "RUN" ++ t) ≡ false
     silent d = clears_not d (text "RUN" ++ t) refl refl
 
-    go : (u : Bool) (r : Short) → eqb (length t) 0 ≡ u → Agree (text "RUN" ++ t) (if u then c.Run else if_digits c.RunFrom r)
+    go : (u : Bool) (r : Option ℕ) → eqb (length t) 0 ≡ u → Agree (text "RUN" ++ t) (if u then c.Run else if_number c.RunFrom r)
     go true r e =
         record {
           infuse = silent Infuse;
           withdraw = silent Withdraw;
           start = inr (le-ltb 3 (length (text "RUN" ++ t)) (omega (arith, eqb-true (length t) 0 e)));
         }
-    go false (Digits x) e =
+    go false (Some x) e =
         record {
           infuse = silent Infuse;
           withdraw = silent Withdraw;
           start = inr (lt-ltb 3 (length (text "RUN" ++ t)) (omega (arith, eqb-false (length t) 0 e)));
         }
-    go false NoDigits e = record { infuse = silent Infuse; withdraw = silent Withdraw; start = inl refl }
+    go false None e = record { infuse = silent Infuse; withdraw = silent Withdraw; start = inl refl }
 
 -- ---- every text
-by_name :
-    (m : Name) (t : List ℕ) → (m ≡ n.Unknown → Agree (letters_of m ++ t) c.Malformed) → Agree (letters_of m ++ t) (asked_by m t)
+by_name : (m : Name) (t : List ℕ) → Agree (letters_of m ++ t) (asked_by m t)
 unfolding leads
-by_name n.Dia t u = apart_agree (text "DIA" ++ t) (asked.diameter_asked t) (diameter t) refl refl refl
-by_name n.Rat t u = apart_agree (text "RAT" ++ t) (asked.rate_asked t) (rate t) refl refl refl
-by_name n.Vol t u = apart_agree (text "VOL" ++ t) (asked.volume_asked t) (volume t) refl refl refl
-by_name n.Dir t u = apart_agree (text "DIR" ++ t) (asked.direction_asked t) (direction t) refl refl refl
-by_name n.Phn t u = apart_agree (text "PHN" ++ t) (asked.phase_asked t) (phase t) refl refl refl
-by_name n.Fun t u = apart_agree (text "FUN" ++ t) (functions.function_asked t) (function t) refl refl refl
-by_name n.Run t u = run_agree t
-by_name n.Stp t u = apart_agree (text "STP" ++ t) (unless_more t c.Stop) (unless_more_lem t c.Stop refl) refl refl refl
-by_name n.Dis t u = apart_agree (text "DIS" ++ t) (unless_more t c.AskDispensed) (unless_more_lem t c.AskDispensed refl) refl refl refl
-by_name n.Cld t u = clear_agree t
-by_name n.Reset t u = reset_agree t
-by_name n.Unknown t u = u refl
+by_name n.Dia t = apart_agree (text "DIA" ++ t) (asked.diameter_asked t) (diameter t) refl refl refl
+by_name n.Rat t = apart_agree (text "RAT" ++ t) (asked.rate_asked t) (rate t) refl refl refl
+by_name n.Vol t = apart_agree (text "VOL" ++ t) (asked.volume_asked t) (volume t) refl refl refl
+by_name n.Dir t = apart_agree (text "DIR" ++ t) (asked.direction_asked t) (direction t) refl refl refl
+by_name n.Phn t = apart_agree (text "PHN" ++ t) (asked.phase_asked t) (phase t) refl refl refl
+by_name n.Fun t = apart_agree (text "FUN" ++ t) (functions.function_asked t) (function t) refl refl refl
+by_name n.Run t = run_agree t
+by_name n.Stp t = apart_agree (text "STP" ++ t) (unless_more t c.Stop) (unless_more_lem t c.Stop refl) refl refl refl
+by_name n.Dis t = apart_agree (text "DIS" ++ t) (unless_more t c.AskDispensed) (unless_more_lem t c.AskDispensed refl) refl refl refl
+by_name n.Cld t = clear_agree t
+by_name n.Reset t = reset_agree t
 
-unknown_agree : (s : List ℕ) → name_of s ≡ n.Unknown → Agree s c.Malformed
+unknown_agree : (s : List ℕ) → name_of s ≡ None → Agree s c.Malformed
 unknown_agree s e =
-    let other : (m : Name) → 0 < length (letters_of m) → leads (letters_of m) s ≡ false = λ m h. unknown_leads s m e h in
-    apart_agree s c.Malformed refl (other n.Cld (omega arith)) (other n.Reset (omega arith)) (other n.Run (omega arith))
+    apart_agree s c.Malformed refl (unknown_leads s n.Cld e) (unknown_leads s n.Reset e) (unknown_leads s n.Run e)
 
-named_agree : (s : List ℕ) → Agree s (asked_by (name_of s) (argument_of s))
-named_agree s =
-    let e : s ≡ letters_of (name_of s) ++ argument_of s = name_and_argument s in
-    subst (λ (t : List ℕ). Agree t (asked_by (name_of s) (argument_of s))) (sym e)
-    (by_name (name_of s) (argument_of s) (λ k. subst (λ (t : List ℕ). Agree t c.Malformed) e (unknown_agree s k)))
+named_agree : (s : List ℕ) → Agree s (asked_of_name (name_of s) (argument_of s))
+named_agree s = go (name_of s) refl
+  where
+    go : (r : Option Name) → name_of s ≡ r → Agree s (asked_of_name r (argument_of s))
+    go (Some m) e =
+        let f : s ≡ letters_of m ++ argument_of s =
+        name_and_argument s ∙ ap (λ (r : Option Name). letters_led r ++ argument_of s) e in
+        subst (λ (t : List ℕ). Agree t (asked_by m (argument_of s))) (sym f) (by_name m (argument_of s))
+    go None e = unknown_agree s e
 
 command_agree : (s : List ℕ) → Agree s (command_of s)
 unfolding command_of leads is_text
@@ -402,10 +380,10 @@ limit_agree : (t : List ℕ) → Agree (text "SAF" ++ t) (pump_asked (limit_aske
 unfolding limit_asked leads
 limit_agree t = go (eqb (length t) 0) (read_three t)
   where
-    go : (u : Bool) (r : Three) → Agree (text "SAF" ++ t) (pump_asked (if u then request.AskLimit else limit_by r))
+    go : (u : Bool) (r : Option ℕ) → Agree (text "SAF" ++ t) (pump_asked (if u then request.AskLimit else limit_by r))
     go true r = apart_agree (text "SAF" ++ t) c.Status refl refl refl refl
-    go false (three.Number k) = apart_agree (text "SAF" ++ t) c.Status refl refl refl refl
-    go false three.NoNumber = apart_agree (text "SAF" ++ t) c.Malformed refl refl refl refl
+    go false (Some k) = apart_agree (text "SAF" ++ t) c.Status refl refl refl refl
+    go false None = apart_agree (text "SAF" ++ t) c.Malformed refl refl refl refl
 
 request_agree : (s : List ℕ) → Agree s (pump_asked (request_of s))
 unfolding request_of
@@ -474,7 +452,7 @@ module _ (s : List ℕ) (command : Command) (a : Agree s command) where
 
       clear : (d : Direction) → is_text (text "*RESET") s ≡ false → s ≡ of_way d (text "CLDINF") (text "CLDWDR")
       clear d e =
-          text_is (of_way d (text "CLDINF") (text "CLDWDR")) s
+          word_is (of_way d (text "CLDINF") (text "CLDWDR")) s
           (sym (or-false (is_text (of_way d (text "CLDINF") (text "CLDWDR")) s))
           ∙ ap (λ (t : Bool). is_text (of_way d (text "CLDINF") (text "CLDWDR")) s || t) (sym e)
           ∙ both d)

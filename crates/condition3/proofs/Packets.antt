@@ -1,7 +1,7 @@
 -- The packet under way, in the link and in the books: a byte and a tick lead both to the same; and what the observer reads in a packet that
 -- is whole is its data.
 -- Assumes nothing.
-use Rattle.std.specs.Prelude.{if◌then◌else◌}
+use Rattle.std.specs.Prelude.{if◌then◌else◌, Option, None, Some}
 use Prim.Native.Nat.{ℕ, ◌+◌, ◌-◌, ◌<◌, ◌≤◌}
 use mathlib.Core.Path.{◌≡◌, refl, sym, ap, ap₂, subst, ◌∙◌}
 use mathlib.Core.Bool.{Bool, true, false, ◌&&◌, ◌||◌, or-true}
@@ -18,16 +18,13 @@ use Rattle.packet.specs.Receiver.{waiting, outside_receiver, tick_in, tick, afte
 use Rattle.packet.specs.Streams as streams
 use Rattle.packet.specs.Streams.{Standing, goes_on, told, next}
 use Rattle.packet.specs.Timed.{Fresh}
-use Rattle.packet.specs.declared.receiver.Place.{Place}
-use Rattle.packet.specs.declared.receiver.Place.TheVariants.{Outside, Inside}
+use Rattle.packet.specs.declared.receiver.Part.{Part}
 use Rattle.packet.specs.declared.receiver.Receiver.{Receiver}
 use Rattle.packet.proofs.Following.{byte_right}
 use Rattle.packet.proofs.Judging.{range_of, good_packet_only}
 use Rattle.packet.proofs.Waiting.{byte_fresh}
 use Rattle.link.specs.Link.{receiver_of, limited_to, link_after, link_tick}
 use Rattle.link.specs.declared.Link.{Link}
-use Rattle.link.specs.declared.Mode.{Mode}
-use Rattle.link.specs.declared.Mode.TheVariants.{Basic, Safe}
 use Rattle.link.specs.declared.Safety.{Safety}
 use Rattle.link.specs.declared.Taken.{Taken}
 use Rattle.link.proofs.Modes.{basic_tick, safe_tick, safe_after}
@@ -36,28 +33,28 @@ use Rattle.condition3.specs.Books.{Packet, outside, inside, has_all, packet_by, 
 use Rattle.condition3.specs.Stored.{SamePlace, place_in, SamePacket}
 
 -- ---- where there is none
-pub none_booked : (bytes : List ℕ) (packet : Packet) (q : ℕ) → SamePlace bytes Outside packet q → packet ≡ outside
+pub none_booked : (bytes : List ℕ) (packet : Packet) (q : ℕ) → SamePlace bytes None packet q → packet ≡ outside
 none_booked bytes outside q h = refl
 none_booked bytes (inside s) q h = absurd h
 
-pub none_there : (l : Link) (q : ℕ) → place_in l.mode ≡ Outside → SamePacket l outside q
-none_there l q e = subst (λ (x : Place). SamePlace l.bytes x outside q) (sym e) tt
+pub none_there : (l : Link) (q : ℕ) → place_in l.safety ≡ None → SamePacket l outside q
+none_there l q e = subst (λ (x : Option Part). SamePlace l.bytes x outside q) (sym e) tt
 
-pub limited_outside : (n : ℕ) → place_in (limited_to n).mode ≡ Outside
+pub limited_outside : (n : ℕ) → place_in (limited_to n).safety ≡ None
 unfolding limited_to
-limited_outside n = by_test (λ (l : Link). place_in l.mode ≡ Outside) (eqb n 0) (λ _. refl) (λ _. refl)
+limited_outside n = by_test (λ (l : Link). place_in l.safety ≡ None) (eqb n 0) (λ _. refl) (λ _. refl)
 
 -- ---- ticks
 tick_place :
-    (bytes : List ℕ) (place : Place) (packet : Packet) (q : ℕ)
+    (bytes : List ℕ) (place : Option Part) (packet : Packet) (q : ℕ)
     → SamePlace bytes place packet q
-    → SamePlace (tick_in (receiver_of bytes place) place).bytes (tick_in (receiver_of bytes place) place).place
+    → SamePlace (tick_in (receiver_of bytes place) place).bytes (tick_in (receiver_of bytes place) place).part
     (if leb 500 (q + 1) then outside else packet) (q + 1)
-tick_place bytes Outside outside q h =
-    by_test (λ (x : Packet). SamePlace bytes Outside x (q + 1)) (leb 500 (q + 1)) (λ _. tt) (λ _. tt)
-tick_place bytes Outside (inside s) q h = absurd h
-tick_place bytes (Inside part) outside q h = absurd h
-tick_place bytes (Inside part) (inside s) q h = go (ltb (part.quiet + 1) 500) (leb 500 (q + 1)) refl refl
+tick_place bytes None outside q h =
+    by_test (λ (x : Packet). SamePlace bytes None x (q + 1)) (leb 500 (q + 1)) (λ _. tt) (λ _. tt)
+tick_place bytes None (inside s) q h = absurd h
+tick_place bytes (Some part) outside q h = absurd h
+tick_place bytes (Some part) (inside s) q h = go (ltb (part.quiet + 1) 500) (leb 500 (q + 1)) refl refl
   where
     Leaves : Bool → Receiver
     Leaves t = if t then waiting bytes part.stage (part.quiet + 1) else outside_receiver
@@ -66,7 +63,7 @@ tick_place bytes (Inside part) (inside s) q h = go (ltb (part.quiet + 1) 500) (l
         (t u : Bool)
         → ltb (part.quiet + 1) 500 ≡ t
         → leb 500 (q + 1) ≡ u
-        → SamePlace (Leaves t).bytes (Leaves t).place (if u then outside else inside s) (q + 1)
+        → SamePlace (Leaves t).bytes (Leaves t).part (if u then outside else inside s) (q + 1)
     go true true e f =
         let a : part.quiet + 1 < 500 = ltb-true (part.quiet + 1) 500 e in
         let c : 500 ≤ q + 1 = leb-true 500 (q + 1) f in
@@ -83,20 +80,20 @@ pub tick_packet :
     → SamePacket l packet q
     → SamePacket (link_tick l) (if leb 500 (q + 1) then outside else packet) (q + 1)
 unfolding tick
-tick_packet l packet q h = go l.mode refl h
+tick_packet l packet q h = go l.safety refl h
   where
     go :
-        (m : Mode)
-        → l.mode ≡ m
+        (m : Option Safety)
+        → l.safety ≡ m
         → SamePlace l.bytes (place_in m) packet q
         → SamePacket (link_tick l) (if leb 500 (q + 1) then outside else packet) (q + 1)
-    go Basic e k =
+    go None e k =
         subst (λ (x : Link). SamePacket x (if leb 500 (q + 1) then outside else packet) (q + 1)) (sym (basic_tick l e))
-        (subst (λ (m : Mode). SamePlace l.bytes (place_in m) (if leb 500 (q + 1) then outside else packet) (q + 1)) (sym e)
-        (tick_place l.bytes Outside packet q k))
-    go (Safe s) e k =
+        (subst (λ (m : Option Safety). SamePlace l.bytes (place_in m) (if leb 500 (q + 1) then outside else packet) (q + 1)) (sym e)
+        (tick_place l.bytes None packet q k))
+    go (Some s) e k =
         subst (λ (x : Link). SamePacket x (if leb 500 (q + 1) then outside else packet) (q + 1)) (sym (safe_tick l s e))
-        (tick_place l.bytes s.place packet q k)
+        (tick_place l.bytes s.part packet q k)
 
 -- ---- as a stream has it
 abbrev stands_as : Packet → Standing
@@ -112,23 +109,23 @@ bytes_in streams.outside = []
 bytes_in (streams.behind s) = s
 
 stands_as_lem :
-    (bytes : List ℕ) (place : Place) (packet : Packet) (q : ℕ)
+    (bytes : List ℕ) (place : Option Part) (packet : Packet) (q : ℕ)
     → SamePlace bytes place packet q
     → standing_in bytes place ≡ stands_as packet
-stands_as_lem bytes Outside outside q h = refl
-stands_as_lem bytes Outside (inside s) q h = absurd h
-stands_as_lem bytes (Inside part) outside q h = absurd h
-stands_as_lem bytes (Inside part) (inside s) q h = ap streams.behind h.0
+stands_as_lem bytes None outside q h = refl
+stands_as_lem bytes None (inside s) q h = absurd h
+stands_as_lem bytes (Some part) outside q h = absurd h
+stands_as_lem bytes (Some part) (inside s) q h = ap streams.behind h.0
 
 placed_as :
-    (bytes : List ℕ) (place : Place) (packet : Packet)
+    (bytes : List ℕ) (place : Option Part) (packet : Packet)
     → standing_in bytes place ≡ stands_as packet
     → Fresh place
     → SamePlace bytes place packet 0
-placed_as bytes Outside outside e f = tt
-placed_as bytes Outside (inside s) e f = false_true (ap is_behind e)
-placed_as bytes (Inside part) outside e f = false_true (sym (ap is_behind e))
-placed_as bytes (Inside part) (inside s) e f = (ap bytes_in e, f)
+placed_as bytes None outside e f = tt
+placed_as bytes None (inside s) e f = false_true (ap is_behind e)
+placed_as bytes (Some part) outside e f = false_true (sym (ap is_behind e))
+placed_as bytes (Some part) (inside s) e f = (ap bytes_in e, f)
 
 -- ---- as many bytes as the first one says
 abbrev is_nothing : Heard → Bool
@@ -227,14 +224,14 @@ module _ (x : ℕ) (answered : Bool) where
       ∙ ap (λ (t : Bool). if t then outside else inside (s ++ x ∷ [])) (or-true answered)
 
 -- ---- of the link
-module _ (l : Link) (s : Safety) (is : l.mode ≡ Safe s) (sound : Sound (receiver_of l.bytes s.place)) (packet : Packet) (q : ℕ)
+module _ (l : Link) (s : Safety) (is : l.safety ≡ Some s) (sound : Sound (receiver_of l.bytes s.part)) (packet : Packet) (q : ℕ)
     (same : SamePacket l packet q) (x : ℕ) where
   abbrev r : Receiver
-  r = receiver_of l.bytes s.place
+  r = receiver_of l.bytes s.part
 
   stands_there : standing r ≡ stands_as packet
   stands_there =
-      stands_as_lem l.bytes s.place packet q (subst (λ (m : Mode). SamePlace l.bytes (place_in m) packet q) is same)
+      stands_as_lem l.bytes s.part packet q (subst (λ (m : Option Safety). SamePlace l.bytes (place_in m) packet q) is same)
 
   pub tells : heard (after_byte r x) ≡ told (stands_as packet) x
   tells = (byte_right r x sound).tells ∙ ap (λ (p : Standing). told p x) stands_there
@@ -246,7 +243,7 @@ module _ (l : Link) (s : Safety) (is : l.mode ≡ Safe s) (sound : Sound (receiv
   byte_packet answered a =
       let to = (after_byte r x).receiver in
       subst (λ (k : Taken). SamePacket k.link (packet_by packet answered x) 0) (sym (safe_after l s x is))
-      (placed_as to.bytes to.place (packet_by packet answered x)
+      (placed_as to.bytes to.part (packet_by packet answered x)
       ((byte_right r x sound).leads ∙ ap (λ (p : Standing). next p x) stands_there
       ∙ led x answered packet (heard (after_byte r x)) (sym tells) a)
       (byte_fresh r x))

@@ -1,6 +1,6 @@
 -- A level of a pin: the pump and the books agree behind it.
 -- Assumes nothing.
-use Rattle.std.specs.Prelude.{if◌then◌else◌}
+use Rattle.std.specs.Prelude.{if◌then◌else◌, Option, Some, None, is_some}
 use Prim.Native.Nat.{ℕ, ◌+◌, ◌*◌}
 use mathlib.Core.Path.{◌≡◌, refl, sym, ap, ◌∙◌, subst}
 use mathlib.Core.Bool.{Bool, true, false, not, ◌&&◌, or-false}
@@ -16,15 +16,13 @@ use Rattle.program.specs.Runs.{fire}
 use Rattle.program.specs.declared.state.Core.{Core}
 use Rattle.program.specs.declared.state.Mode.{Mode}
 use Rattle.program.specs.declared.state.Mode.TheVariants.{Stopped, Paused, Running}
-use Rattle.program.specs.declared.state.Trap.{Trap}
-use Rattle.program.specs.declared.state.Trap.TheVariants.{NoTrap, Armed}
 use Rattle.soundness.proofs.Runs.{by_test}
 use Rattle.pump.specs.declared.holder.Pump.{Pump}
 use Rattle.statement.specs.Facts.{core_of, run_of, link_of}
 use Rattle.statement.specs.Histories.{pin_at, Whole, Event}
 use Rattle.statement.specs.Outcomes.{Outcome, Level, low, high, Edge, two, four, six, Levelled, Still, pump_with_core}
 use Rattle.condition3.specs.Books.{Books, clears, deed, drops, fires_by, other, view_of, moves, step_at, told}
-use Rattle.condition3.specs.Stored.{is_set, SamePacket}
+use Rattle.condition3.specs.Stored.{SamePacket}
 use Rattle.condition3.proofs.Noting.{Kept, Beside, Gone, none_cleared, none_restarted, noted_is}
 use Rattle.condition3.proofs.Quiet.{seen, alike_same, quiet_step}
 use Rattle.condition3.proofs.Ticks.{Stepped, Followed, none_told, unanswered}
@@ -103,11 +101,11 @@ module _ (p : Pump) (b : Books) (k : Kept p b) (o : Outcome) (silent : o.report.
   abbrev fired : Bool
   fired = fires_by b (seen p (pin_at 4 0) o) other
 
-  fired_by : (t u : Bool) → (core_of p).pins.four ≡ t → is_paused_in (run_of p).mode ≡ u → fired ≡ (t && (is_set (run_of p).trap && not u))
+  fired_by : (t u : Bool) → (core_of p).pins.four ≡ t → is_paused_in (run_of p).mode ≡ u → fired ≡ (t && (is_some (run_of p).trap && not u))
   fired_by t u x y =
       ap (λ (z : Bool). z && (b.trap && not (eqb (view_of p).status (letter "P")))) (sym k.four ∙ x)
       ∙ ap (λ (z : Bool). t && (z && not (eqb (view_of p).status (letter "P")))) (sym k.trap)
-      ∙ ap (λ (z : Bool). t && (is_set (run_of p).trap && not z)) (view_paused p ∙ y)
+      ∙ ap (λ (z : Bool). t && (is_some (run_of p).trap && not z)) (view_paused p ∙ y)
 
   falling : (core_of p).pins.four ≡ true → Levels 4 0 (with_run (with_four (core_of p) false) (spring (run_of p)))
   unfolding spring fire
@@ -115,28 +113,28 @@ module _ (p : Pump) (b : Books) (k : Kept p b) (o : Outcome) (silent : o.report.
     where
       by_trap :
           (run_of p).mode ≡ Running
-          → (t : Trap)
+          → (t : Option ℕ)
           → (run_of p).trap ≡ t
           → Levels 4 0 (with_run (with_four (core_of p) false) (spring_by (run_of p) t))
-      by_trap m NoTrap e still w =
+      by_trap m None e still w =
           level_steps p b k 4 0 o _ still silent w refl false
-          (fired_by true false four-high (ap is_paused_in m) ∙ ap (λ (x : Trap). is_set x && true) e)
+          (fired_by true false four-high (ap is_paused_in m) ∙ ap (λ (x : Option ℕ). is_some x && true) e)
           refl refl (λ z. false_true z) (λ _. keeps refl refl refl) (moving_on p)
-      by_trap m (Armed n) e still w =
+      by_trap m (Some n) e still w =
           level_steps p b k 4 0 o _ still silent w refl true
-          (fired_by true false four-high (ap is_paused_in m) ∙ ap (λ (x : Trap). is_set x && true) e)
+          (fired_by true false four-high (ap is_paused_in m) ∙ ap (λ (x : Option ℕ). is_some x && true) e)
           refl refl (λ _. record { work = refl; loops = refl; trap = refl }) (λ z. false_true (sym z)) (moving_on p)
 
       by_mode : (m : Mode) → (run_of p).mode ≡ m → Levels 4 0 (with_run (with_four (core_of p) false) (spring_in (run_of p) m))
       by_mode (Stopped alarm) m =
           λ still w.
           level_steps p b k 4 0 o _ still silent w refl false
-          (fired_by true false four-high (ap is_paused_in m) ∙ ap (λ (x : Trap). is_set x && true) (calm p k.whole alarm m).no_trap)
+          (fired_by true false four-high (ap is_paused_in m) ∙ ap (λ (x : Option ℕ). is_some x && true) (calm p k.whole alarm m).no_trap)
           refl refl (λ z. false_true z) (λ _. keeps refl refl refl) (moving_on p)
       by_mode Paused m =
           λ still w.
           level_steps p b k 4 0 o _ still silent w refl false
-          (fired_by true true four-high (ap is_paused_in m) ∙ and_false (is_set (run_of p).trap))
+          (fired_by true true four-high (ap is_paused_in m) ∙ and_false (is_some (run_of p).trap))
           refl refl (λ z. false_true z) (λ _. keeps refl refl refl) (moving_on p)
       by_mode Running m = by_trap m (run_of p).trap refl
 

@@ -1,6 +1,6 @@
 -- Every call but a tick: it gives no step; where what is under way is dropped, nothing is under way behind it, and else all is as it was.
 -- Assumes nothing.
-use Rattle.std.specs.Prelude.{if◌then◌else◌}
+use Rattle.std.specs.Prelude.{ℕ, if◌then◌else◌, is_some}
 use mathlib.Core.Path.{◌≡◌, refl, sym, ap, ◌∙◌, subst}
 use mathlib.Core.Bool.{Bool, true, false, ◌||◌}
 use native.Mathlib.Omega.{arith}
@@ -22,7 +22,7 @@ use Rattle.statement.specs.Outcomes.{Outcome, Still}
 use Rattle.condition3.specs.Books.{Books, Visit, Doing, nothing, visiting, view_of, moves, Deed, other, deed_by, deed, drops, fires_by}
 use Rattle.condition3.specs.Books.{asked}
 use Rattle.condition3.specs.Books.{volume_at, step_at, is_taken}
-use Rattle.condition3.specs.Stored.{SameVisit, SameWork, is_set}
+use Rattle.condition3.specs.Stored.{SameVisit, SameWork}
 use Rattle.condition3.proofs.Noting.{Kept, Makes, Beside, Gone, makes_gone, makes_same, gone_stopped, restarts, drops_is}
 use Rattle.condition3.proofs.Noting.{some_volume}
 use Rattle.condition3.proofs.Ticks.{Stepped, stepped_by, none_told, none_booked, same_none}
@@ -53,7 +53,7 @@ pub data Turns (p q : Pump) : Type 0 where
       is_visiting (under_way p) ≡ false
       → is_visiting (under_way q) ≡ false
       → loops_of q ≡ loops_of p
-      → is_set (run_of q).trap ≡ is_set (run_of p).trap
+      → is_some (run_of q).trap ≡ is_some (run_of p).trap
       → Turns p q
 
 same_visit :
@@ -101,8 +101,8 @@ module _ (p q : Pump) (b : Books) (k : Kept p b) where
   same_loops (stays place l t y a) = ap opened l
   same_loops (rests before behind l t) = l
 
-  same_trap : Turns p q → is_set (run_of q).trap ≡ is_set (run_of p).trap
-  same_trap (stays place l t y a) = ap is_set t
+  same_trap : Turns p q → is_some (run_of q).trap ≡ is_some (run_of p).trap
+  same_trap (stays place l t y a) = ap (is_some {T = ℕ}) t
   same_trap (rests before behind l t) = t
 
 -- a call that is no tick, taken or refused, does nothing of a tick

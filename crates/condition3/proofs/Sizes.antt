@@ -1,7 +1,7 @@
 -- The observer's volumes, targets and rates are those of the drive, though he works them out by himself; and a visit that is whole gave as
 -- many steps as fit.
 -- Assumes nothing.
-use Rattle.std.specs.Prelude.{if◌then◌else◌}
+use Rattle.std.specs.Prelude.{if◌then◌else◌, Some}
 use Prim.Native.Nat.{ℕ, zero, suc, ◌+◌, ◌*◌, ◌/◌, ◌≤◌, ◌<◌}
 use mathlib.Core.Path.{◌≡◌, refl, sym, ap, ap₂, ◌∙◌}
 use mathlib.Core.Bool.{Bool, true, false, ◌&&◌}
@@ -18,8 +18,8 @@ use Rattle.drive.specs.declared.rates.RateUnit.TheVariants.{Um, Mm, Uh, Mh}
 use Rattle.drive.specs.declared.syringe.Syringe.{Syringe}
 use Rattle.drive.specs.declared.syringe.VolumeUnit.TheVariants.{Microlitre, Millilitre}
 use Rattle.drive.proofs.Bounds.{step_volume_ge}
-use Rattle.dispense.specs.declared.rates.Rate.TheVariants.{Current}
-use Rattle.condition3.specs.Books.{Visit, step_at, volume_at, hourly, is_usable_at}
+use Rattle.dispense.specs.declared.rates.Rate.{Rate}
+use Rattle.condition3.specs.Books.{Visit, step_at, volume_at, in_unit, hourly, is_usable_at}
 use Rattle.condition3.specs.Condition.{Fits}
 
 pub volume_same : (y : Syringe) (volume : ℕ) → volume_in_fl y volume ≡ volume_at y.diameter volume
@@ -41,18 +41,21 @@ pub target_same : (y : Syringe) (volume : ℕ) → step_target y volume ≡ volu
 unfolding step_target
 target_same y volume = ap₂ (λ (a c : ℕ). a / c) (volume_same y volume) (step_same y)
 
-pub rate_same : (rate : ℕ) (unit : RateUnit) → hourly_rate rate unit ≡ hourly (Current unit rate)
+unit_same : (rate : ℕ) (unit : RateUnit) → hourly_rate rate unit ≡ in_unit unit rate
 unfolding hourly_rate
-rate_same rate Um = refl
-rate_same rate Mm = refl
-rate_same rate Uh = refl
-rate_same rate Mh = refl
+unit_same rate Um = refl
+unit_same rate Mm = refl
+unit_same rate Uh = refl
+unit_same rate Mh = refl
+
+pub rate_same : (rate : Rate) → hourly_rate rate.thousandths rate.unit ≡ hourly (Some rate)
+rate_same rate = unit_same rate.thousandths rate.unit
 
 -- ---- a usable rate, in either's terms
-positive_same : (rate : ℕ) (unit : RateUnit) → ltb 0 (hourly (Current unit rate)) ≡ ltb 0 rate
+positive_same : (rate : ℕ) (unit : RateUnit) → ltb 0 (in_unit unit rate) ≡ ltb 0 rate
 positive_same rate unit = go (ltb 0 rate) refl unit
   where
-    go : (t : Bool) → ltb 0 rate ≡ t → (unit : RateUnit) → ltb 0 (hourly (Current unit rate)) ≡ ltb 0 rate
+    go : (t : Bool) → ltb 0 rate ≡ t → (unit : RateUnit) → ltb 0 (in_unit unit rate) ≡ ltb 0 rate
     go true e Um = lt-ltb 0 (rate * 60_000_000) (omega (arith, ltb-true 0 rate e)) ∙ sym e
     go true e Mm = lt-ltb 0 (rate * 60_000_000_000) (omega (arith, ltb-true 0 rate e)) ∙ sym e
     go true e Uh = lt-ltb 0 (rate * 1_000_000) (omega (arith, ltb-true 0 rate e)) ∙ sym e
@@ -62,11 +65,12 @@ positive_same rate unit = go (ltb 0 rate) refl unit
     go false e Uh = le-ltb 0 (rate * 1_000_000) (omega (arith, ltb-false 0 rate e)) ∙ sym e
     go false e Mh = le-ltb 0 (rate * 1_000_000_000) (omega (arith, ltb-false 0 rate e)) ∙ sym e
 
-pub usable_same : (y : Syringe) (rate : ℕ) (unit : RateUnit) → is_usable_at y.diameter (Current unit rate) ≡ drive.is_usable y rate unit
+pub usable_same :
+    (y : Syringe) (rate : Rate) → is_usable_at y.diameter (Some rate) ≡ drive.is_usable y rate.thousandths rate.unit
 unfolding drive.is_usable step_threshold step_volume
-usable_same y rate unit =
-    ap₂ (λ (a c : Bool). a && c) (positive_same rate unit)
-    (ap (λ (n : ℕ). leb n (4 * (3_600_000 * step_at y.diameter))) (sym (rate_same rate unit)))
+usable_same y rate =
+    ap₂ (λ (a c : Bool). a && c) (positive_same rate.thousandths rate.unit)
+    (ap (λ (n : ℕ). leb n (4 * (3_600_000 * step_at y.diameter))) (sym (rate_same rate)))
 
 -- ---- a volume above 0, and a target of 0, in either's terms
 some_same : (t : Bool) (volume : ℕ) → ltb 0 (volume * (if t then 1_000_000 else 1_000_000_000)) ≡ ltb 0 volume

@@ -1,7 +1,7 @@
 -- In Basic mode a tick does its work and no more; and so a stopped pump stays as it is, however long one waits, and every tick of it is
 -- silent.
 -- Assumes nothing.
-use Rattle.std.specs.Prelude.{if◌then◌else◌}
+use Rattle.std.specs.Prelude.{if◌then◌else◌, Option, None}
 use Prim.Native.Nat.{ℕ, zero, suc, ◌≤◌}
 use mathlib.Core.Path.{◌≡◌, refl, sym, ap, ap₂, ◌∙◌, subst}
 use mathlib.Core.Bool.{Bool, true, false}
@@ -10,14 +10,14 @@ use lib.Dec.{eqb}
 use lib.ListN.{length}
 use Rattle.words.specs.declared.answers.Said.{Said}
 use Rattle.words.specs.declared.answers.Said.TheVariants as said
+use Rattle.words.specs.declared.answers.Alarm.{Alarm}
 use Rattle.program.specs.declared.state.Core.{Core}
 use Rattle.program.specs.declared.state.Mode.TheVariants.{Stopped}
-use Rattle.program.specs.declared.state.Pending.{Pending}
 use Rattle.tick.specs.Ticks.{silent, tick_by, tick}
 use Rattle.tick.specs.declared.Moved.{Moved}
 use Rattle.link.specs.Link.{is_safe, left_in, ticks_left, fires}
+use Rattle.link.specs.declared.Safety.{Safety}
 use Rattle.link.specs.declared.Link.{Link}
-use Rattle.link.specs.declared.Mode as link-mode
 use Rattle.link.proofs.Modes.{not_safe, basic_tick}
 use Rattle.answer.specs.Answers.{room, length_in}
 use Rattle.answer.specs.declared.frame.Frame.TheVariants.{Packet}
@@ -25,7 +25,6 @@ use Rattle.pump.specs.Calls.{tick_at, tick_call}
 use Rattle.pump.specs.Elapsing.{time_out, after_tick, sent}
 use Rattle.pump.specs.Holder.{here_of, with_device, is_sound_pump}
 use Rattle.pump.specs.declared.holder.Pump.{Pump}
-use Rattle.pump.specs.declared.reports.Refusal.TheVariants.{Accepted}
 use Rattle.pump.specs.declared.reports.Report.{Report}
 use Rattle.pump.proofs.Running.{sound_tick}
 use Rattle.statement.specs.Facts.{core_of, run_of, link_of}
@@ -38,7 +37,7 @@ module _ (p : Pump) (buffer : List ℕ) (sound : is_sound_pump p ≡ true) (room
   where
     no_limit : fires (link_of p) ≡ false
     unfolding fires ticks_left
-    no_limit = ap (λ (m : link-mode.Mode). eqb (left_in m) 1) (not_safe (link_of p) basic)
+    no_limit = ap (λ (m : Option Safety). eqb (left_in m) 1) (not_safe (link_of p) basic)
 
     nothing_sent : sent p.device (tick_at p).core ≡ said.Nothing
     unfolding sent
@@ -64,7 +63,7 @@ module _ (p : Pump) (buffer : List ℕ) (sound : is_sound_pump p ≡ true) (room
               withdrawn = m.withdrawn;
               beeps = if m.beep then 1 else 0;
               ticks = 1;
-              refusal = Accepted;
+              refusal = None;
               output = m.core.output;
             }
 
@@ -74,12 +73,12 @@ silent_tick p = work_of p (silent (core_of p))
 
 -- an event that is a tick of a stopped pump, and reports that pump and nothing else
 pub record Standing (e : Event) : Type 0 where
-  pub alarm : Pending
+  pub alarm : Option Alarm
   pub before_stopped : (run_of e.before).mode ≡ Stopped alarm
   pub nothing : e.report ≡ silent_tick e.before
 
 module _ (p : Pump) (buffer : List ℕ) (sound : is_sound_pump p ≡ true) (roomy : room ≤ length buffer) (basic : is_safe (link_of p) ≡ false)
-    (alarm : Pending) (stopped : (run_of p).mode ≡ Stopped alarm) where
+    (alarm : Option Alarm) (stopped : (run_of p).mode ≡ Stopped alarm) where
   pub stopped_tick : tick_call p buffer ≡ silent_tick p
   unfolding tick
   stopped_tick =

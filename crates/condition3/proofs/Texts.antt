@@ -1,7 +1,7 @@
 -- A text that was heard, in a line or in a packet: the pump and the books agree behind it. Another address is passed over, an alarm
 -- answered, SAF met by the link, any other command obeyed.
 -- Assumes nothing.
-use Rattle.std.specs.Prelude.{if◌then◌else◌}
+use Rattle.std.specs.Prelude.{if◌then◌else◌, is_some, None}
 use Prim.Native.Nat.{ℕ, ◌+◌, ◌*◌, ◌≤◌}
 use mathlib.Core.Path.{◌≡◌, refl, sym, ap, ap₂, ◌∙◌, subst}
 use mathlib.Core.Logic.{◌⊎◌, inl, inr}
@@ -38,7 +38,6 @@ use Rattle.command.specs.declared.obeying.Edit.{Edit}
 use Rattle.command.specs.declared.obeying.Edit.TheVariants.{Keep, Write, Renew}
 use Rattle.command.specs.declared.obeying.Obeyed.{Obeyed}
 use Rattle.soundness.proofs.Runs.{by_test, phase_bounds}
-use Rattle.packet.specs.declared.receiver.Place.TheVariants.{Outside}
 use Rattle.link.specs.Link as link
 use Rattle.link.specs.declared.Link.{Link}
 use Rattle.line.specs.Collected.{collect, characters}
@@ -61,7 +60,7 @@ use Rattle.statement.specs.Outcomes.{Outcome, Still, Written, HearsText, obeying
 use Rattle.statement.proofs.Placing.{placed_at}
 use Rattle.condition3.specs.Books.{Books, is_obeyed, data_in, answer_data, clears, packet_data, line_after, told, step_at, view_of, is_safe}
 use Rattle.condition3.specs.Books.{moves}
-use Rattle.condition3.specs.Stored.{is_set, place_in}
+use Rattle.condition3.specs.Stored.{place_in}
 use Rattle.condition3.proofs.Answers.{is_packet, words_of, unframed_words, plain, obeyed_as, nothing_plain, alarm_plain, status_plain}
 use Rattle.condition3.proofs.Answers.{error_plain}
 use Rattle.condition3.proofs.Noting.{Kept, Beside, Gone, restarts, none_cleared, none_restarted}
@@ -360,7 +359,7 @@ module _ (p : Pump) (b : Books) (k : Kept p b) (x : ℕ) (buffer : List ℕ) (ro
             record {
               work = ap (λ (y : Core). y.run.place.work) core_is ∙ work;
               loops = ap (λ (y : Core). opened y.run.loops) core_is ∙ loops;
-              trap = ap (λ (y : Core). is_set y.run.trap) core_is ∙ trap;
+              trap = ap (λ (y : Core). is_some y.run.trap) core_is ∙ trap;
             })
             (λ z. false_true (sym z))
 
@@ -382,12 +381,12 @@ module _ (p : Pump) (b : Books) (k : Kept p b) (x : ℕ) (buffer : List ℕ) (ro
     text_steps l (out.obeys command z n r) s a w = command_steps command (ap pump_asked r) s w a
 
     -- ---- no packet is under way behind it
-    outside_by : (edit : Edit) → place_in lk.mode ≡ Outside → place_in (link_behind edit lk).mode ≡ Outside
+    outside_by : (edit : Edit) → place_in lk.safety ≡ None → place_in (link_behind edit lk).safety ≡ None
     outside_by Keep h = h
     outside_by (Write y) h = h
     outside_by Renew h = refl
 
-    pub text_outside : (l : Listened) → HearsText q ask l → place_in lk.mode ≡ Outside → place_in (link_of l.pump).mode ≡ Outside
+    pub text_outside : (l : Listened) → HearsText q ask l → place_in lk.safety ≡ None → place_in (link_of l.pump).safety ≡ None
     text_outside l (out.other_address n) h = h
     text_outside l (out.alarm_pending alarm z n) h = h
     text_outside l (out.asks_limit z n r) h = h
@@ -395,4 +394,4 @@ module _ (p : Pump) (b : Books) (k : Kept p b) (x : ℕ) (buffer : List ℕ) (ro
     text_outside l (out.limit_too_great m z n r g) h = h
     text_outside l (out.resets z n r) h = refl
     text_outside l (out.obeys command z n r) h =
-        ap (λ (v : Device). place_in v.link.mode) (device_is command (ap pump_asked r)) ∙ outside_by (obeying q command).edit h
+        ap (λ (v : Device). place_in v.link.safety) (device_is command (ap pump_asked r)) ∙ outside_by (obeying q command).edit h

@@ -1,7 +1,7 @@
 -- The event of a tick that did its work, whatever that is, and no more: the link stays, and nothing is sent. What the observer reads off
 -- it; what is to be shown of any event; and ticks in which nothing is entered and no visit is worked. What the link adds is in Lapsing.
 -- Assumes nothing.
-use Rattle.std.specs.Prelude.{if◌then◌else◌}
+use Rattle.std.specs.Prelude.{if◌then◌else◌, is_some, None}
 use Prim.Native.Nat.{ℕ, ◌+◌, ◌*◌, ◌≤◌}
 use mathlib.Core.Path.{◌≡◌, refl, sym, ap, ◌∙◌, subst}
 use mathlib.Core.Bool.{Bool, true, false, ◌&&◌, ◌||◌, or-false}
@@ -24,7 +24,6 @@ use Rattle.tick.specs.declared.Moved.{Moved}
 use Rattle.line.specs.Spelling.{is_text}
 use Rattle.pump.specs.Reports.{refusal_number}
 use Rattle.pump.specs.declared.holder.Pump.{Pump}
-use Rattle.pump.specs.declared.reports.Refusal.TheVariants.{Accepted}
 use Rattle.pump.specs.declared.reports.Report.{Report}
 use Rattle.statement.specs.Facts.{core_of, run_of, under_way, loops_of}
 use Rattle.statement.specs.Histories.{Whole, Event, tick_in}
@@ -33,7 +32,7 @@ use Rattle.condition3.specs.Books.{Books, Doing, nothing, visiting, View, view_o
 use Rattle.condition3.specs.Books.{drops, is_safe, data_in}
 use Rattle.condition3.specs.Books.{noted, fires_by, is_obeyed, ruled_by, told, of_way, step_at}
 use Rattle.condition3.specs.Condition.{Goes}
-use Rattle.condition3.specs.Stored.{SameWork, SamePacket, is_set}
+use Rattle.condition3.specs.Stored.{SameWork, SamePacket}
 use Rattle.condition3.proofs.Noting.{Kept, Makes, Beside, kept_by, makes_gone, makes_same, gone_stopped, none_cleared}
 use Rattle.condition3.proofs.Noting.{none_restarted, drops_is}
 use Rattle.condition3.proofs.Views.{is_stopped_in, moves_in, view_moves}
@@ -79,7 +78,7 @@ work_of p m =
       withdrawn = m.withdrawn;
       beeps = if m.beep then 1 else 0;
       ticks = 1;
-      refusal = Accepted;
+      refusal = None;
       output = m.core.output;
     }
 
@@ -198,7 +197,7 @@ module _ (p : Pump) (b : Books) (k : Kept p b) (m : Moved) (s : Silent p m) wher
         is_stopped_in m.core.run.mode ≡ false
         → SameWork (pump_with_core p m.core) m.core.run.place.work b.doing
         → loops_of (pump_with_core p m.core) ≡ loops_of p
-        → is_set m.core.run.trap ≡ is_set (run_of p).trap
+        → is_some m.core.run.trap ≡ is_some (run_of p).trap
         → Stepped b (moved p m)
     idle_on h w l t =
         stepped_by b (moved p m) other false refl idles (idle_drops ∙ h) s.whole

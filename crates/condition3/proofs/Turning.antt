@@ -1,24 +1,23 @@
 -- The program under way: RUN, STP, the foot switch and a setting leave it as it stands, or no visit is under way before and behind them,
 -- or the pump is stopped behind them.
 -- Assumes nothing.
-use Rattle.std.specs.Prelude.{if◌then◌else◌}
+use Rattle.std.specs.Prelude.{Result, Ok, Err, if◌then◌else◌, Option, Some, None, is_some}
+use Rattle.std.specs.Result.{result_unwrap_or}
 use Prim.Native.Nat.{ℕ}
 use mathlib.Core.Path.{◌≡◌, refl, sym, ap, ◌∙◌, subst}
 use mathlib.Core.Bool.{Bool, true, false, not}
 use lib.ListN.{take}
 use Rattle.base.proofs.Choices.{false_true}
+use Rattle.words.specs.declared.answers.Alarm.{Alarm}
 use Rattle.loops.specs.Loops.{opened}
 use Rattle.dispense.specs.declared.rates.Rate.{Rate}
-use Rattle.dispense.specs.declared.rates.Rate.TheVariants.{NoRate, Current}
-use Rattle.words.specs.declared.answers.Reply.TheVariants.{NotApplicable}
-use Rattle.program.specs.Control.{accept, decline, run_by, run_on, stop_by, stop_now}
+use Rattle.words.specs.declared.answers.Declined.{Declined}
+use Rattle.words.specs.declared.answers.Declined.TheVariants.{NotApplicable}
+use Rattle.program.specs.Control.{run_by, run_on, stop_by, stop_now}
 use Rattle.program.specs.Edges.{unless_alarm, foot_switch}
 use Rattle.program.specs.Runs.{pause, stop, go_on, pending_by, pending, is_moving, is_operating, is_running, is_visiting, is_waiting}
-use Rattle.program.specs.declared.control.Steered.{Steered}
 use Rattle.program.specs.declared.state.Mode.{Mode}
 use Rattle.program.specs.declared.state.Mode.TheVariants.{Stopped, Paused, Running}
-use Rattle.program.specs.declared.state.Pending.{Pending}
-use Rattle.program.specs.declared.state.Pending.TheVariants.{NoAlarm, Raised}
 use Rattle.program.specs.declared.state.Place.{Place}
 use Rattle.program.specs.declared.state.Run.{Run}
 use Rattle.program.specs.declared.state.Work.{Work}
@@ -30,7 +29,6 @@ use Rattle.pump.specs.declared.holder.Pump.{Pump}
 use Rattle.statement.specs.Facts.{Nothing, core_of, run_of}
 use Rattle.statement.specs.Histories.{Whole}
 use Rattle.statement.proofs.Soundness.{sound_facts}
-use Rattle.condition3.specs.Stored.{is_set}
 use Rattle.condition3.proofs.Quiet.{Alike, Turns, stays, rests}
 use Rattle.condition3.proofs.Views.{is_stopped_in, moves_in}
 
@@ -40,13 +38,13 @@ pub data TurnsTo (r t : Run) : Type 0 where
       is_visiting r.place.work ≡ false
       → is_visiting t.place.work ≡ false
       → opened t.loops ≡ opened r.loops
-      → is_set t.trap ≡ is_set r.trap
+      → is_some t.trap ≡ is_some r.trap
       → TurnsTo r t
   halts : is_stopped_in t.mode ≡ true → TurnsTo r t
 
 -- a stopped pump has nothing under way
 abbrev pub Calm : Run → Type 0
-Calm r = (alarm : Pending) → r.mode ≡ Stopped alarm → Nothing r
+Calm r = (alarm : Option Alarm) → r.mode ≡ Stopped alarm → Nothing r
 
 pub calm : (p : Pump) → Whole p → Calm (run_of p)
 calm p w alarm e = (sound_facts p w.sound).stopped alarm e
@@ -62,8 +60,12 @@ waits r e h = go r.place.work refl
     go Waiting k = refl
 
 module _ (r : Run) where
-  abbrev Steers : Steered → Type 0
-  Steers x = TurnsTo r x.run
+  -- what does not apply leaves the program as it is
+  abbrev steered : Result Run Declined → Run
+  steered x = result_unwrap_or x r
+
+  abbrev Steers : Result Run Declined → Type 0
+  Steers x = TurnsTo r (steered x)
 
   pub turns_run : Calm r → Steers (run_on r)
   unfolding run_on
@@ -73,7 +75,7 @@ module _ (r : Run) where
       go (Stopped alarm) e =
           let n = calm alarm e in
           idles (ap is_visiting n.no_work) refl (ap (λ (k : ℕ). take k r.loops.slots) (sym n.no_loop))
-          (ap is_set (sym n.no_trap))
+          (ap (is_some {T = ℕ}) (sym n.no_trap))
       go Paused e = keeps refl refl refl
       go Running e = by_test Steers (is_moving r) (λ _. keeps refl refl refl) (λ h. idles (waits r e h) refl refl refl)
 
@@ -90,18 +92,18 @@ module _ (r : Run) where
   unfolding foot_switch
   turns_foot calm = go (pending r)
     where
-      go : (a : Pending) → TurnsTo r (unless_alarm r a)
-      go (Raised alarm) = keeps refl refl refl
-      go NoAlarm = by_test Steers (is_moving r) (λ _. turns_stop) (λ _. turns_run calm)
+      go : (a : Option Alarm) → TurnsTo r (unless_alarm r a)
+      go (Some alarm) = keeps refl refl refl
+      go None = by_test Steers (is_moving r) (λ _. turns_stop) (λ _. turns_run calm)
 
   -- ---- settings
   pub turns_tune : (x : ℕ) → TurnsTo r (tune r x)
   unfolding tune
   turns_tune x = go r.rate
     where
-      go : (rate : Rate) → TurnsTo r (tune_by r x rate)
-      go NoRate = keeps refl refl refl
-      go (Current unit old) = keeps refl refl refl
+      go : (rate : Option Rate) → TurnsTo r (tune_by r x rate)
+      go None = keeps refl refl refl
+      go (Some old) = keeps refl refl refl
 
   pub turns_settle : TurnsTo r (settle r)
   unfolding settle
@@ -141,24 +143,24 @@ module _ (r : Run) where
         go (Pausing left) e = refl
         go Waiting e = e
 
-    pub run_on_lem : is_stopped_in (run_on r).run.mode ≡ false
+    pub run_on_lem : is_stopped_in (result_unwrap_or (run_on r) r).mode ≡ false
     unfolding run_on
     run_on_lem =
-        ap (λ (m : Mode). is_stopped_in (run_by r m).run.mode) runs
-        ∙ ap (λ (t : Bool). is_stopped_in (if◌then◌else◌ {A = Steered} t (decline r NotApplicable) (accept (go_on r))).run.mode) moving
+        ap (λ (m : Mode). is_stopped_in (steered (run_by r m)).mode) runs
+        ∙ ap (λ (t : Bool). is_stopped_in (steered (if t then Err NotApplicable else Ok (go_on r))).mode) moving
         ∙ ap is_stopped_in runs
 
-    pub stop_on : is_stopped_in (stop_now r).run.mode ≡ false
+    pub stop_on : is_stopped_in (result_unwrap_or (stop_now r) r).mode ≡ false
     unfolding stop_now
     stop_on =
-        ap (λ (m : Mode). is_stopped_in (stop_by r m).run.mode) runs
-        ∙ ap (λ (t : Bool). is_stopped_in (if◌then◌else◌ {A = Steered} t (accept (pause r)) (accept (stop r))).run.mode) moving
+        ap (λ (m : Mode). is_stopped_in (steered (stop_by r m)).mode) runs
+        ∙ ap (λ (t : Bool). is_stopped_in (steered (if t then Ok (pause r) else Ok (stop r))).mode) moving
 
     pub foot_on : is_stopped_in (foot_switch r).mode ≡ false
     unfolding foot_switch
     foot_on =
         ap (λ (m : Mode). is_stopped_in (unless_alarm r (pending_by m)).mode) runs
-        ∙ ap (λ (t : Bool). is_stopped_in (if◌then◌else◌ {A = Steered} t (stop_now r) (run_on r)).run.mode) moving
+        ∙ ap (λ (t : Bool). is_stopped_in (steered (if t then stop_now r else run_on r)).mode) moving
         ∙ stop_on
 
     pub settle_on : is_stopped_in (settle r).mode ≡ false
@@ -169,9 +171,9 @@ module _ (r : Run) where
     unfolding tune
     tune_on x = go r.rate
       where
-        go : (rate : Rate) → is_stopped_in (tune_by r x rate).mode ≡ false
-        go NoRate = ap is_stopped_in runs
-        go (Current unit old) = ap is_stopped_in runs
+        go : (rate : Option Rate) → is_stopped_in (tune_by r x rate).mode ≡ false
+        go None = ap is_stopped_in runs
+        go (Some old) = ap is_stopped_in runs
 
 -- ---- of a pump, where the phases are the same to the visit under way
 pub turns_as :

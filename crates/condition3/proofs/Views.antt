@@ -1,5 +1,7 @@
 -- What the status letter tells of the mode and of what is under way, and what the time limit tells of the mode of the link.
 -- Assumes nothing.
+use Rattle.link.specs.declared.Safety.{Safety}
+use Rattle.std.specs.Prelude.{Option, None, Some}
 use Prim.Native.Nat.{ℕ, ◌≤◌}
 use mathlib.Core.Path.{◌≡◌, refl, sym, ◌∙◌}
 use mathlib.Core.Bool.{Bool, true, false, ◌||◌}
@@ -17,8 +19,6 @@ use Rattle.program.specs.declared.state.Work.{Work}
 use Rattle.program.specs.declared.state.Work.TheVariants.{Entering, Visiting, Pausing, Waiting}
 use Rattle.link.specs.Link as link
 use Rattle.link.specs.Link.{limit_in, safe_in}
-use Rattle.link.specs.declared.Mode as link-mode
-use Rattle.link.specs.declared.Mode.TheVariants.{Basic, Safe}
 use Rattle.link.proofs.Modes.{stands}
 use Rattle.answer.specs.Letters.{status_letter}
 use Rattle.pump.specs.Holder.{here_of, is_sound_pump}
@@ -95,9 +95,9 @@ moving_on p h = moves_on (run_of p).mode (under_way p) (sym (view_moves p) ∙ h
 -- ---- the limit is above 0 in Safe mode alone
 pub view_safe : (p : Pump) → is_sound_pump p ≡ true → is_safe (view_of p) ≡ link.is_safe p.device.link
 unfolding view_of link.limit_of link.is_safe
-view_safe p sound = go p.device.link.mode refl
+view_safe p sound = go p.device.link.safety refl
   where
-    go : (m : link-mode.Mode) → p.device.link.mode ≡ m → ltb 0 (limit_in m) ≡ safe_in m
-    go Basic e = refl
-    go (Safe s) e =
+    go : (m : Option Safety) → p.device.link.safety ≡ m → ltb 0 (limit_in m) ≡ safe_in m
+    go None e = refl
+    go (Some s) e =
         let some : 1 ≤ s.limit = (stands p.device.link s (pump_link p sound) e).limited in lt-ltb 0 s.limit (omega arith)

@@ -1,6 +1,6 @@
 -- A tick that works a visit: it gives the steps that the books give, and the pump and the books agree behind it.
 -- Assumes nothing.
-use Rattle.std.specs.Prelude.{if◌then◌else◌}
+use Rattle.std.specs.Prelude.{if◌then◌else◌, is_some, Option, Some, None}
 use Prim.Native.Nat.{ℕ, ◌+◌, ◌-◌, ◌*◌, ◌/◌, ◌%◌, ◌≤◌, ◌<◌, min}
 use mathlib.Core.Path.{◌≡◌, refl, sym, ap, ap₂, ◌∙◌, subst}
 use mathlib.Core.Logic.{◌⊎◌, inl, inr}
@@ -15,7 +15,6 @@ use Rattle.drive.specs.Rates.{hourly_rate}
 use Rattle.drive.specs.Syringe.{step_volume, step_threshold}
 use Rattle.drive.specs.declared.directions.Direction.{Direction}
 use Rattle.drive.specs.declared.directions.Direction.TheVariants.{Infuse, Withdraw}
-use Rattle.drive.specs.declared.rates.RateUnit.{RateUnit}
 use Rattle.drive.proofs.Theorems.{usable_iff, due_four}
 use Rattle.words.specs.Functions.{number}
 use Rattle.words.specs.declared.answers.Alarm.TheVariants.{Program}
@@ -27,7 +26,6 @@ use Rattle.dispense.specs.Ledgers.{most_total, total_of, book}
 use Rattle.dispense.specs.Visits.{due_of, store_of, steps_of, given_of, worked_of, is_done}
 use Rattle.dispense.specs.declared.ledgers.Ledger.{Ledger}
 use Rattle.dispense.specs.declared.rates.Rate.{Rate}
-use Rattle.dispense.specs.declared.rates.Rate.TheVariants.{NoRate, Current}
 use Rattle.dispense.specs.declared.visits.Visit as stored
 use Rattle.program.specs.Cores.{with_run, with_ledger}
 use Rattle.program.specs.Runs.{raise, doing, go_on}
@@ -52,7 +50,7 @@ use Rattle.condition3.specs.Books.{Books, Visit, Doing, nothing, visiting, view_
 use Rattle.condition3.specs.Books.{is_full}
 use Rattle.condition3.specs.Books.{is_whole, all_visits, of_way, ruled_by, told, hourly, later}
 use Rattle.condition3.specs.Condition.{Fits, In}
-use Rattle.condition3.specs.Stored.{SameVisit, SameWork, is_set}
+use Rattle.condition3.specs.Stored.{SameVisit, SameWork}
 use Rattle.condition3.proofs.Noting.{Kept, Beside, makes_gone, gone_stopped, some_volume}
 use Rattle.condition3.proofs.Sizes.{step_same, step_some, rate_same, fits_by}
 use Rattle.condition3.proofs.Ticks.{Stepped, stepped_by, moved, tick_beside, tick_drops}
@@ -116,9 +114,9 @@ module _ (p : Pump) (b : Books) (k : Kept p b) (runs : (run_of p).mode ≡ Runni
           let h = eqb-false w.volume 0 e in
           ne_eqb v.target 0 (λ z. omega (arith, z, same.target, below (omega arith))) ∙ sym e
 
-  module _ (unit : RateUnit) (r : ℕ) (at-rate : (run_of p).rate ≡ Current unit r) where
+  module _ (r : Rate) (at-rate : (run_of p).rate ≡ Some r) where
     abbrev hour : ℕ
-    hour = hourly_rate r unit
+    hour = hourly_rate r.thousandths r.unit
 
     abbrev limit : ℕ
     limit = step_threshold (core_of p).syringe
@@ -129,15 +127,15 @@ module _ (p : Pump) (b : Books) (k : Kept p b) (runs : (run_of p).mode ≡ Runni
     abbrev next : stored.Visit
     next = worked_of v hour limit
 
-    abbrev rate : Rate
+    abbrev rate : Option Rate
     rate = (view_of p).rate
 
-    rate_seen : rate ≡ Current unit r
+    rate_seen : rate ≡ Some r
     unfolding view_of
     rate_seen = at-rate
 
     hour_same : hour ≡ hourly rate
-    hour_same = rate_same r unit ∙ ap hourly (sym rate_seen)
+    hour_same = rate_same r ∙ ap hourly (sym rate_seen)
 
     limit_same : limit ≡ 3_600_000 * w.v
     unfolding step_threshold
@@ -302,13 +300,13 @@ module _ (p : Pump) (b : Books) (k : Kept p b) (runs : (run_of p).mode ≡ Runni
     four =
         by_test (λ (x : ℕ). x ≤ 4) (eqb v.target 0) (λ _. most) (λ _. omega (arith, most))
       where
-        usable : Usable (core_of p).syringe (Current unit r)
+        usable : Usable (core_of p).syringe (Some r)
         usable = subst (Usable (core_of p).syringe) at-rate facts.usable
 
         most : (v.store + hour) / limit ≤ 4
         most =
-            due_four (core_of p).syringe r v.store unit (sound_facts p k.whole.sound).ranges.diameter.0
-            ((usable_iff (core_of p).syringe r unit).1 usable)
+            due_four (core_of p).syringe r.thousandths v.store r.unit (sound_facts p k.whole.sound).ranges.diameter.0
+            ((usable_iff (core_of p).syringe r.thousandths r.unit).1 usable)
             facts.store_below
 
     way_seen : (view_of p).phase.direction ≡ way
@@ -362,7 +360,7 @@ module _ (p : Pump) (b : Books) (k : Kept p b) (runs : (run_of p).mode ≡ Runni
                 (sym (now_is run taken n)) work;
             fits = fits_now run taken n (omega arith);
             loops = ap (λ (x : Loops). opened x) loops ∙ k.loops;
-            trap = ap is_set trap ∙ k.trap;
+            trap = ap (is_some {T = ℕ}) trap ∙ k.trap;
             four = here.four;
             line = here.line;
             totals = here.totals;
@@ -449,12 +447,12 @@ works_visit p b k runs v at =
         (x : Doing)
         → b.doing ≡ x
         → SameWork p (Visiting v) x
-        → (rate : Rate)
+        → (rate : Option Rate)
         → (run_of p).rate ≡ rate
         → Usable (core_of p).syringe rate
         → Works (worked (core_of p) way (work_at (run_of p) (core_of p).ledger (core_of p).syringe way v rate))
     by_doing nothing is same _ e use-of = absurd same
-    by_doing (visiting w) is same NoRate e use-of = absurd use-of
-    by_doing (visiting w) is same (Current unit r) e use-of =
-        subst Works (worked_is p way (give_steps (run_of p) (core_of p).ledger (core_of p).syringe way v (hourly_rate r unit)))
-        (works_on p b k runs v at w is same unit r e)
+    by_doing (visiting w) is same None e use-of = absurd use-of
+    by_doing (visiting w) is same (Some r) e use-of =
+        subst Works (worked_is p way (give_steps (run_of p) (core_of p).ledger (core_of p).syringe way v (hourly_rate r.thousandths r.unit)))
+        (works_on p b k runs v at w is same r e)

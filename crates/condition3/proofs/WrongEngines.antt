@@ -8,6 +8,7 @@
 -- AddsUp (specs/Many.antt of the statement), which refuses them.
 -- (01, What a bidder's proof must pin; Slips we have met; 02, 1/12 and 2/12)
 -- Assumes nothing.
+use Rattle.std.specs.Prelude.{Option, Some}
 use Prim.Native.Nat.{ℕ, ◌+◌, ◌*◌, ◌≤◌}
 use Prim.Native.String.{String}
 use mathlib.Core.Path.{◌≡◌, refl, sym, ap}
@@ -25,7 +26,7 @@ use Rattle.drive.specs.declared.rates.RateUnit.TheVariants.{Mh}
 use Rattle.words.specs.declared.answers.Alarm.TheVariants.{Program}
 use Rattle.loops.specs.Loops.{in_slots}
 use Rattle.dispense.specs.Rates.{thousandths}
-use Rattle.dispense.specs.declared.rates.Rate.TheVariants.{Current}
+use Rattle.dispense.specs.declared.rates.Rate.{Rate}
 use Rattle.program.specs.Cores.{with_run, with_ledger}
 use Rattle.program.specs.Edges as edges
 use Rattle.program.specs.Runs.{with_rate, with_loops, stop, raise, doing}
@@ -135,10 +136,13 @@ twice = lines ("" ∷ "FUNLPS" ∷ "PHN2" ∷ "FUNBEP" ∷ "PHN3" ∷ "FUNLOP2" 
 
 -- ==== "add the hourly rate to the store" (01, Ticks and phases): twice of it is added. At 50 MH a first working tick gives no step, and
 -- here one.   Refused by `ruled`
+abbrev at_mh : ℕ → Option Rate
+at_mh x = Some (record { unit = Mh; thousandths = x })
+
 abbrev twice_as_fast : Pump → Report
 twice_as_fast p =
-    let r : Report = ticked (pump_with_core p (with_run (core_of p) (with_rate (run_of p) (Current Mh 100_000)))) in
-    running r (with_rate (run_of r.pump) (Current Mh 50_000))
+    let r : Report = ticked (pump_with_core p (with_run (core_of p) (with_rate (run_of p) (at_mh 100_000)))) in
+    running r (with_rate (run_of r.pump) (at_mh 50_000))
 
 abbrev pub pace_doubled : Wrong
 pace_doubled = record { rightly = lines ("" ∷ "RAT50MH" ∷ "RUN" ∷ []) ++ ticks_of 1; slips = (one_tick, twice_as_fast) ∷ [] }
@@ -149,7 +153,7 @@ pace_doubled_lem c = eqb-false 1 0 refl (ruled pace_doubled c).0
 
 -- "current rate becomes the stored one": half of it does, and is shown by RAT and kept to.   Refused by `none_silent` (Entry)
 abbrev halved : Pump → Report
-halved p = let r : Report = ticked p in running r (with_rate (run_of r.pump) (Current Mh 25_000))
+halved p = let r : Report = ticked p in running r (with_rate (run_of r.pump) (at_mh 25_000))
 
 abbrev pub rate_halved : Wrong
 rate_halved = record { rightly = lines ("" ∷ "RAT50MH" ∷ "RUN" ∷ []); slips = (one_tick, halved) ∷ [] }

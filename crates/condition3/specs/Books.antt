@@ -6,9 +6,9 @@
 --     phases, at that place                          FUN, VOL, DIR; the stored rate RAT, asked for when the pump is not operating
 --     device.link, the time limit                    SAF            (0 in Basic mode)
 -- What no query shows he keeps himself, by the document's sentences, said a second time: an engine wrong in definition and code is caught.
-use Rattle.std.specs.Prelude.{if◌then◌else◌, ℕ, ◌+◌, ◌-◌, ◌*◌, ◌/◌, ◌%◌, min, Bool, true, false, not, ◌&&◌, ◌||◌, leb, ltb, eqb, List, [], ◌∷◌, ◌++◌, length, take}
+use Rattle.std.specs.Prelude.{if◌then◌else◌, ℕ, ◌+◌, ◌-◌, ◌*◌, ◌/◌, ◌%◌, min, Bool, true, false, not, ◌&&◌, ◌||◌, leb, ltb, eqb, List, [], ◌∷◌, ◌++◌, length, take, Option, Some, None}
 use Rattle.condition3.specs.Terms.{letter, text, leads, is_text, Direction, Infuse, Withdraw}
-use Rattle.condition3.specs.Terms.{Um, Mm, Uh, Mh, Rate, NoRate, Current, Phase, number, datum, Loop, Pump, here_of, status_run}
+use Rattle.condition3.specs.Terms.{RateUnit, Um, Mm, Uh, Mh, Rate, Phase, number, datum, Loop, Pump, here_of, status_run}
 pub use Rattle.condition3.specs.Wire.{Packet, outside, inside, has_all, packet_by, packet_data, data_in, past_digit}
 use Rattle.condition3.specs.Terms.{status_letter, limit_of, refusal_number, characters, Call, byte_in, pin_at, tick_in, ticks_in, Event}
 
@@ -19,7 +19,7 @@ pub record View : Type 0 where
   pub diameter : ℕ
   pub running : ℕ
   pub phase : Phase
-  pub rate : Rate
+  pub rate : Option Rate
   pub limit : ℕ
 
 unfoldable pub view_of : Pump → View
@@ -76,18 +76,21 @@ step_at diameter = diameter * diameter * 19_635 / 100_000
 abbrev pub volume_at : ℕ → ℕ → ℕ
 volume_at diameter thousandths = thousandths * (if leb diameter 14_000 then 1_000_000 else 1_000_000_000)
 
-abbrev pub hourly : Rate → ℕ
-hourly NoRate = 0
-hourly (Current Um thousandths) = thousandths * 60_000_000
-hourly (Current Mm thousandths) = thousandths * 60_000_000_000
-hourly (Current Uh thousandths) = thousandths * 1_000_000
-hourly (Current Mh thousandths) = thousandths * 1_000_000_000
+abbrev pub in_unit : RateUnit → ℕ → ℕ
+in_unit Um thousandths = thousandths * 60_000_000
+in_unit Mm thousandths = thousandths * 60_000_000_000
+in_unit Uh thousandths = thousandths * 1_000_000
+in_unit Mh thousandths = thousandths * 1_000_000_000
+
+abbrev pub hourly : Option Rate → ℕ
+hourly None = 0
+hourly (Some rate) = in_unit rate.unit rate.thousandths
 
 -- RAT makes the stored rate the current one. Usable: above 0, and at most four thresholds of 3,600,000 v
-abbrev pub stored_in : Phase → Rate
-stored_in p = Current p.unit p.rate
+abbrev pub stored_in : Phase → Option Rate
+stored_in p = Some (record { unit = p.unit; thousandths = p.rate })
 
-abbrev pub is_usable_at : ℕ → Rate → Bool
+abbrev pub is_usable_at : ℕ → Option Rate → Bool
 is_usable_at diameter rate = ltb 0 (hourly rate) && leb (hourly rate) (4 * (3_600_000 * step_at diameter))
 
 abbrev pub new_visit : View → Visit
@@ -97,16 +100,16 @@ new_visit x =
 
 -- a working tick adds the hourly rate to the store, 0 at entry; every threshold of 3,600,000 v in it is a due step and is taken off; the
 -- due steps are given up to the target, volume / v rounded down; a continuous visit, of volume 0, has none   (01, Ticks and phases)
-abbrev pub due : Visit → Rate → ℕ
+abbrev pub due : Visit → Option Rate → ℕ
 due w rate =
     let n = (w.store + hourly rate) / (3_600_000 * w.v) in if eqb w.volume 0 then n else min n (w.volume / w.v - w.steps)
 
-abbrev pub worked_on : Visit → Rate → ℕ → Visit
+abbrev pub worked_on : Visit → Option Rate → ℕ → Visit
 worked_on w rate steps =
     let store = (w.store + hourly rate) % (3_600_000 * w.v) in
     record { phase = w.phase; direction = w.direction; volume = w.volume; v = w.v; store = store; steps = w.steps + steps }
 
-abbrev pub is_full : ℕ → Visit → Rate → Bool
+abbrev pub is_full : ℕ → Visit → Option Rate → Bool
 is_full given w rate = not (leb (given + due w rate * w.v) 1_000_000_000_000_000_000)
 
 -- ==== Loops, the newest first. LPS: if this phase opened a loop, that loop and those opened after it close; else all stay

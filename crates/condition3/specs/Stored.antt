@@ -1,20 +1,16 @@
 -- What the pump stores of the program under way, and no query shows, is what the observer has in his books: the visit's time store, its
 -- target and its count of steps, the open loops, the trap, pin 4, the line, the packet under way, the totals. That it is so after any
 -- calls is a theorem (proofs/Theorem.antt, stored_as_booked), with which condition 3 is proved.
-use Rattle.std.specs.Prelude.{ℕ, ◌/◌, ◌<◌, ◌≡◌, Bool, true, false, List, reverse}
+use Rattle.std.specs.Prelude.{ℕ, ◌/◌, ◌<◌, ◌≡◌, List, reverse, is_some, Bool, true, false, Option, None, Some}
 use Rattle.drive.specs.declared.directions.Direction.{Direction}
 use Rattle.dispense.specs.Ledgers.{total_of}
 use Rattle.dispense.specs.declared.visits.Visit as stored
-use Rattle.program.specs.declared.state.Trap.{Trap}
-use Rattle.program.specs.declared.state.Trap.TheVariants.{NoTrap, Armed}
 use Rattle.program.specs.declared.state.Work.{Work}
 use Rattle.program.specs.declared.state.Work.TheVariants.{Entering, Visiting, Pausing, Waiting}
 use Rattle.packet.specs.Follows.{came}
-use Rattle.packet.specs.declared.receiver.Place.{Place}
-use Rattle.packet.specs.declared.receiver.Place.TheVariants.{Outside, Inside}
+use Rattle.packet.specs.declared.receiver.Part.{Part}
+use Rattle.link.specs.declared.Safety.{Safety}
 use Rattle.link.specs.declared.Link.{Link}
-use Rattle.link.specs.declared.Mode.{Mode}
-use Rattle.link.specs.declared.Mode.TheVariants.{Basic, Safe}
 use Rattle.line.specs.Collected.{characters, Holds}
 use Rattle.pump.specs.Holder.{here_of}
 use Rattle.pump.specs.declared.holder.Pump.{Pump}
@@ -43,29 +39,25 @@ SameWork p (Pausing left) (visiting w) = ⊥
 SameWork p Waiting nothing = Unit {0}
 SameWork p Waiting (visiting w) = ⊥
 
-abbrev pub is_set : Trap → Bool
-is_set NoTrap = false
-is_set (Armed n) = true
-
 -- a packet is under way in both, with the same bytes since STX and the same ticks since the last byte, or in neither; in Basic mode in
 -- neither   (02, 2/12)
-abbrev pub SamePlace : List ℕ → Place → Packet → ℕ → Type 0
-SamePlace bytes Outside outside quiet = Unit {0}
-SamePlace bytes Outside (inside s) quiet = ⊥
-SamePlace bytes (Inside part) outside quiet = ⊥
-SamePlace bytes (Inside part) (inside s) quiet = (came bytes part.stage ≡ s) × (part.quiet ≡ quiet)
+abbrev pub SamePlace : List ℕ → Option Part → Packet → ℕ → Type 0
+SamePlace bytes None outside quiet = Unit {0}
+SamePlace bytes None (inside s) quiet = ⊥
+SamePlace bytes (Some part) outside quiet = ⊥
+SamePlace bytes (Some part) (inside s) quiet = (came bytes part.stage ≡ s) × (part.quiet ≡ quiet)
 
-abbrev pub place_in : Mode → Place
-place_in Basic = Outside
-place_in (Safe s) = s.place
+abbrev pub place_in : Option Safety → Option Part
+place_in None = None
+place_in (Some s) = s.part
 
 abbrev pub SamePacket : Link → Packet → ℕ → Type 0
-SamePacket l packet quiet = SamePlace l.bytes (place_in l.mode) packet quiet
+SamePacket l packet quiet = SamePlace l.bytes (place_in l.safety) packet quiet
 
 pub record Stored (p : Pump) (b : Books) : Type 0 where
   pub work : SameWork p (under_way p) b.doing
   pub loops : loops_of p ≡ reverse b.loops
-  pub trap : is_set (run_of p).trap ≡ b.trap
+  pub trap : is_some (run_of p).trap ≡ b.trap
   pub four : (core_of p).pins.four ≡ b.four
   -- the line holds the first 40 of the characters since the last return, and is over-long where there are more   (01, Line and answer)
   pub line : Holds p.device.line (characters b.line)

@@ -4,12 +4,12 @@
 pub use Rattle.base.specs.Text.{letter, text}
 pub use Rattle.drive.specs.declared.directions.Direction.{Direction}
 pub use Rattle.drive.specs.declared.directions.Direction.TheVariants.{Infuse, Withdraw}
+pub use Rattle.drive.specs.declared.rates.RateUnit.{RateUnit}
 pub use Rattle.drive.specs.declared.rates.RateUnit.TheVariants.{Um, Mm, Uh, Mh}
 pub use Rattle.words.specs.Functions.{number, datum}
 pub use Rattle.words.specs.declared.phases.Phase.{Phase}
 pub use Rattle.loops.specs.declared.Loop.{Loop}
 pub use Rattle.dispense.specs.declared.rates.Rate.{Rate}
-pub use Rattle.dispense.specs.declared.rates.Rate.TheVariants.{NoRate, Current}
 unfoldable pub use Rattle.program.specs.Statuses.{status_run}
 unfoldable pub use Rattle.link.specs.Link.{limit_of}
 unfoldable pub use Rattle.line.specs.Collected.{characters}

@@ -3,16 +3,18 @@
 --     elapse_by_ticks   its calls, taken apart, are n single ticks, one after the other, whichever of them end a call   (02, 1/12, 2/12)
 --     elapse_after      and they lead where n single ticks lead
 -- Assumes nothing.
-use Rattle.std.specs.Prelude.{if◌then◌else◌}
+use Rattle.std.specs.Prelude.{if◌then◌else◌, Option, None, Some}
 use Prim.Native.Nat.{ℕ, zero, suc, ◌+◌, ◌-◌, ◌≤◌, ◌<◌, min}
 use mathlib.Core.Path.{◌≡◌, refl, sym, ap, ◌∙◌}
-use mathlib.Core.Bool.{Bool, true, false, not}
+use mathlib.Core.Bool.{Bool, true, false}
 use mathlib.Core.List.{List, [], ◌∷◌, ◌++◌, append-nil, map}
 use native.Mathlib.Omega.{arith}
 use lib.Dec.{eqb}
 use borrow.Author.Tests.{eqb-true, eqb-false}
-use Rattle.pump.specs.Reports.{is_refused}
+use Rattle.pump.specs.Reports.{refusal_number, is_refused}
 use Rattle.pump.specs.declared.holder.Pump.{Pump}
+use Rattle.pump.specs.declared.reports.Refusal.{Refusal}
+use Rattle.pump.specs.declared.reports.Refusal.TheVariants.{ShortBuffer, NoPin, NoLevel, Unsound, TooManyTicks}
 use Rattle.script.specs.Items.{elapse}
 use Rattle.player.specs.Elapsing.{million, zeros, portion, call_for, left_after, portions_by, portions}
 use Rattle.player.proofs.Done.{few_done, some_done}
@@ -29,6 +31,15 @@ portion_is : (left : ℕ) → portion left ≡ min left million
 unfolding portion
 portion_is left = refl
 
+-- no refusal has the number 0
+unnumbered : (x : Option Refusal) → refusal_number x ≡ 0 → is_refused x ≡ false
+unnumbered None e = refl
+unnumbered (Some ShortBuffer) e = absurd (omega (arith, e))
+unnumbered (Some NoPin) e = absurd (omega (arith, e))
+unnumbered (Some NoLevel) e = absurd (omega (arith, e))
+unnumbered (Some Unsound) e = absurd (omega (arith, e))
+unnumbered (Some TooManyTicks) e = absurd (omega (arith, e))
+
 -- ---- one call for what is left: it is taken, and does some of it
 module _ (p : Pump) (w : Whole p) (left : ℕ) where
   asked : portion left ≤ million
@@ -38,7 +49,7 @@ module _ (p : Pump) (w : Whole p) (left : ℕ) where
   done = does p (ticks_for (portion left)) w.sound (omega arith, asked)
 
   one_taken : is_refused (call_for p left).refusal ≡ false
-  one_taken = ap (λ (k : ℕ). not (eqb k 0)) done.taken
+  one_taken = unnumbered (call_for p left).refusal done.taken
 
   few : (call_for p left).ticks ≤ left
   few = omega (arith, portion_is left, few_done p (portion left) zeros)

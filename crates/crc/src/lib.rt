@@ -14,10 +14,8 @@ pub fn check(bytes: &[u8]) -> u16
 {
     let remainders = table();
     let mut crc: u16 = 0;
-    let mut i = 0;
-    while i < bytes.len() {
-        crc = by_table(&remainders, crc, bytes[i]);
-        i += 1;
+    for &b in bytes {
+        crc = by_table(&remainders, crc, b);
     }
     crc
 }
@@ -35,8 +33,8 @@ fn by_table(table: &[u16; 256], crc: u16, b: u8) -> u16
     requires { table.now ≡ remainders }
     ensures { result ≡ after crc (bits_of b) }
 {
-    let at = (crc / 256) ^ (b as u16);
-    (crc % 256 * 256) ^ table[at as usize]
+    let [high, low] = crc.to_be_bytes();
+    (low as u16 * 256) ^ table[(high ^ b) as usize]
 }
 
 // The table, which follows its rule at each of its entries. A constant array is built anew at each use: a loop asks for it once, and

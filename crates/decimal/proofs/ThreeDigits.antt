@@ -1,6 +1,6 @@
 -- One to three digits from the left: what `read_three` has found when it stands at the byte `i`, what `read_three` is where it stops,
 -- and how large a reading is.
-use Rattle.std.specs.Prelude.{if◌then◌else◌}
+use Rattle.std.specs.Prelude.{if◌then◌else◌, Some, None}
 use Prim.Native.Nat.{ℕ, ◌+◌, ◌-◌, ◌*◌, ◌^◌, ◌≤◌, ◌<◌}
 use mathlib.Core.Path.{◌≡◌, refl, sym, ap, ◌∙◌}
 use mathlib.Core.Bool.{Bool, true, false, ◌&&◌, and-false}
@@ -13,10 +13,10 @@ use lib.Dec.{lit<}
 use lib.ListN.{length, get_or, drop, drop_of_length-le}
 use lib.Seq.{drop-cons}
 use Rattle.base.proofs.Choices.{and_left, and_right}
-use Rattle.decimal.specs.declared.short.Three.TheVariants.{Number, NoNumber}
 use Rattle.decimal.specs.Read.{is_digit, number_from}
 use Rattle.decimal.specs.Short.{all_digits, read_three}
 use Rattle.decimal.proofs.Bytes.{digit_yes, digit_low, digit_high, digit_bounds}
+use Rattle.decimal.proofs.ShortTexts.{no_digits}
 
 -- at the byte i of s, of one to three: every byte before it is a digit, and these make v
 pub record Passed (s : List ℕ) (v i : ℕ) : Type 0 where
@@ -36,11 +36,11 @@ value_small {s} {v} {i} c =
     let k : i ≤ 3 = omega arith in
     lt_of_lt_of_le c.small (pow-le-pow_right {n = 10} (lit< tt) {i = i} {j = 3} k)
 
-pub no_byte : (s : List ℕ) → length s ≡ 0 → NoNumber ≡ read_three s
+pub no_byte : (s : List ℕ) → length s ≡ 0 → None ≡ read_three s
 unfolding read_three
 no_byte s e = sym (simp (lt-leb 1 (length s) (omega arith), and-false))
 
-pub too_many : (s : List ℕ) → 3 < length s → NoNumber ≡ read_three s
+pub too_many : (s : List ℕ) → 3 < length s → None ≡ read_three s
 unfolding read_three
 too_many s h = sym (simp (lt-leb (length s) 3 h, and-false))
 
@@ -61,13 +61,13 @@ module _ (s : List ℕ) (v i : ℕ) (c : Passed s v i) where
           small = let k = c.small in rw (add-one, pow-suc) (omega arith);
         }
 
-    pub no_digit : is_digit (get_or s i 0) ≡ false → NoNumber ≡ read_three s
+    pub no_digit : is_digit (get_or s i 0) ≡ false → None ≡ read_three s
     unfolding read_three all_digits
     no_digit e =
         let none : all_digits s ≡ false = sym c.all ∙ ap all_digits rest ∙ simp e in
         sym (simp none)
 
-  pub all_passed : length s ≤ i → Number v ≡ read_three s
+  pub all_passed : length s ≤ i → Some v ≡ read_three s
   unfolding read_three all_digits number_from
   all_passed h =
       let end : drop i s ≡ [] = drop_of_length-le s {i = i} h in
@@ -88,21 +88,18 @@ pub ruleset three_digits = (
 )
 
 -- ---- how large a reading is
-pub no_number : {A : Type 0} (n : ℕ) → NoNumber ≡ Number n → A
-no_number n e = let z : ◌≡◌ {A = ℕ} 0 1 = cc in absurd (omega arith)
-
-chosen : (t : Bool) (x n : ℕ) → (if t then Number x else NoNumber) ≡ Number n → (t ≡ true) × (x ≡ n)
+chosen : (t : Bool) (x n : ℕ) → (if t then Some x else None) ≡ Some n → (t ≡ true) × (x ≡ n)
 chosen true x n e = (refl, cc)
-chosen false x n e = no_number n e
+chosen false x n e = no_digits n e
 
 -- the first of some bytes that are all digits, and the others
 first_digit : (a : ℕ) (s : List ℕ) → all_digits (a ∷ s) ≡ true → (is_digit a ≡ true) × (all_digits s ≡ true)
 unfolding all_digits
 first_digit a s e = (and_left (is_digit a) (all_digits s) e, and_right (is_digit a) (all_digits s) e)
 
-pub three_small : (s : List ℕ) (n : ℕ) → read_three s ≡ Number n → n ≤ 999
+pub three_small : (s : List ℕ) (n : ℕ) → read_three s ≡ Some n → n ≤ 999
 unfolding read_three number_from
-three_small [] n e = no_number n (simp and-false at e)
+three_small [] n e = no_digits n (simp and-false at e)
 three_small (a ∷ []) n e =
     let p = chosen (all_digits (a ∷ []) && true) _ n e in
     let q = first_digit a [] (and_left (all_digits (a ∷ [])) true p.0) in
@@ -122,4 +119,4 @@ three_small (a ∷ b ∷ c ∷ []) n e =
     let r : ((0 * 10 + (a - 48)) * 10 + (b - 48)) * 10 + (c - 48) ≡ n = sym (simp (q.0, t.0, u.0)) ∙ p.1 in
     omega (arith, digit_bounds a q.0, digit_bounds b t.0, digit_bounds c u.0)
 three_small (a ∷ b ∷ c ∷ d ∷ s) n e =
-    no_number n (too_many (a ∷ b ∷ c ∷ d ∷ s) (omega arith) ∙ e)
+    no_digits n (too_many (a ∷ b ∷ c ∷ d ∷ s) (omega arith) ∙ e)

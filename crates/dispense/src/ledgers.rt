@@ -62,8 +62,7 @@ impl Ledger {
     pub fn total_of(self, direction: Direction) -> u64
         ensures { result ≡ total_of self direction }
     {
-        let totals = self.totals;
-        totals.figure_of(direction)
+        self.totals.figure_of(direction)
     }
 
     // So much more was given.
@@ -71,9 +70,10 @@ impl Ledger {
         requires { (total_of self direction ≤ most_total) × (fl ≤ most_total) }
         ensures { result ≡ book self direction fl }
     {
-        let totals = self.totals;
         Ledger {
-            totals: totals.with_figure(direction, totals.figure_of(direction) + fl),
+            totals: self
+                .totals
+                .with_figure(direction, self.totals.figure_of(direction) + fl),
         }
     }
 
@@ -81,9 +81,8 @@ impl Ledger {
     pub fn clear(self, direction: Direction) -> Ledger
         ensures { result ≡ clear self direction }
     {
-        let totals = self.totals;
         Ledger {
-            totals: totals.with_figure(direction, 0),
+            totals: self.totals.with_figure(direction, 0),
         }
     }
 

@@ -1,74 +1,43 @@
 // The current rate, and what INC and DEC make of it.
-ghost use Rattle.std.specs.Prelude.{◌≡◌};
-ghost use Rattle.dispense.specs.Rates.{increase, decrease, thousandths, is_no_rate, is_usable_rate};
+ghost use Rattle.std.specs.Prelude.{◌≡◌, Some};
+ghost use Rattle.dispense.specs.Rates.{increase, decrease, is_usable_rate};
 
 use drive::{RateUnit, Syringe};
 
-// The current rate: its units, and how many thousandths of them. The unit comes first, so that no three bytes lie unused: the
-// compiler would carry them along at every tick.
+// The current rate: its unit, and how many thousandths of it. Where there may be none it is an `Option<Rate>`.
 #[derive(Clone, Copy)]
-pub enum Rate {
-    NoRate,
-    Current(RateUnit, u32),
+pub struct Rate {
+    pub unit: RateUnit,
+    pub thousandths: u32,
 }
 
 impl Rate {
     // INC: a sum over 9,999.000 is no rate. What is left up to there is compared, so that no sum overflows.
-    pub fn increase(self, x: u32) -> Rate
-        ensures { result ≡ increase self x }
+    pub fn increase(self, x: u32) -> Option<Rate>
+        ensures { result ≡ increase (Some self) x }
     {
-        match self {
-            Rate::NoRate => Rate::NoRate,
-            Rate::Current(unit, r) => {
-                if r <= decimal::MOST {
-                    if x <= decimal::MOST - r {
-                        return Rate::Current(unit, r + x);
-                    }
-                }
-                Rate::NoRate
-            }
+        if self.thousandths <= decimal::MOST && x <= decimal::MOST - self.thousandths {
+            return Some(Rate {
+                thousandths: self.thousandths + x,
+                ..self
+            });
         }
+        None
     }
 
     // DEC: what would fall below 0 is 0, which is not usable.
     pub fn decrease(self, x: u32) -> Rate
-        ensures { result ≡ decrease self x }
+        ensures { Some result ≡ decrease (Some self) x }
     {
-        match self {
-            Rate::NoRate => Rate::NoRate,
-            Rate::Current(unit, r) => {
-                if r < x {
-                    return Rate::Current(unit, 0);
-                }
-                Rate::Current(unit, r - x)
-            }
-        }
-    }
-
-    pub fn thousandths(self) -> u32
-        ensures { result ≡ thousandths self }
-    {
-        match self {
-            Rate::NoRate => 0,
-            Rate::Current(_, r) => r,
-        }
-    }
-
-    pub fn is_no_rate(self) -> bool
-        ensures { result ≡ is_no_rate self }
-    {
-        match self {
-            Rate::NoRate => true,
-            Rate::Current(_, _) => false,
+        Rate {
+            thousandths: self.thousandths.saturating_sub(x),
+            ..self
         }
     }
 
     pub fn is_usable(self, syringe: Syringe) -> bool
-        ensures { result ≡ is_usable_rate syringe self }
+        ensures { result ≡ is_usable_rate syringe (Some self) }
     {
-        match self {
-            Rate::NoRate => false,
-            Rate::Current(unit, r) => syringe.is_usable(r, unit),
-        }
+        syringe.is_usable(self.thousandths, self.unit)
     }
 }

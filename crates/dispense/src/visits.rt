@@ -33,9 +33,9 @@ impl Visit {
         if target == 0 {
             return Worked {
                 visit: Visit {
-                    given: given,
-                    target: target,
-                    store: store,
+                    given,
+                    target,
+                    store,
                 },
                 steps: due,
             };
@@ -45,10 +45,10 @@ impl Visit {
         Worked {
             visit: Visit {
                 given: given + steps,
-                target: target,
-                store: store,
+                target,
+                store,
             },
-            steps: steps,
+            steps,
         }
     }
 

@@ -2,13 +2,14 @@
 ghost use Rattle.std.specs.Prelude.{◌≡◌};
 ghost use Rattle.drive.specs.Directions.{reverse};
 
-#[derive(Clone, Copy)]
+#[derive(Clone, Copy, PartialEq, Eq, Debug)]
 pub enum Direction {
     Infuse,
     Withdraw,
 }
 
 impl Direction {
+    // The other direction.
     pub fn reverse(self) -> Direction
         ensures { result ≡ reverse self }
     {

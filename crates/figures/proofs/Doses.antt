@@ -1,7 +1,7 @@
 -- Figures f, h and i: the tick in which the visit ends, and that no other follows, however many more ticks go by: behind the visit one tick
 -- stops the pump, and the ticks of a stopped pump leave the visits in the observer's books as they are.
 -- Assumes nothing.
-use Rattle.std.specs.Prelude.{if◌then◌else◌}
+use Rattle.std.specs.Prelude.{if◌then◌else◌, None}
 use Prim.Native.Nat.{ℕ, zero, suc, ◌+◌, ◌-◌}
 use Prim.Native.Char.{Char}
 use Prim.Native.String.{String}
@@ -13,10 +13,8 @@ use native.Mathlib.Omega.{arith}
 use lib.ListN.{length}
 use Rattle.program.specs.declared.state.Mode.{Mode}
 use Rattle.program.specs.declared.state.Mode.TheVariants.{Stopped}
-use Rattle.program.specs.declared.state.Pending.TheVariants.{NoAlarm}
 use Rattle.link.specs.Link.{safe_in, is_safe}
 use Rattle.link.specs.declared.Link.{Link}
-use Rattle.link.specs.declared.Mode.TheVariants.{Basic}
 use Rattle.pump.specs.Holder.{model_phases, is_sound_pump}
 use Rattle.pump.specs.declared.holder.Pump.{Pump}
 use Rattle.pump.specs.declared.reports.Report.{Report}
@@ -88,7 +86,7 @@ all_rest (e ∷ es) b h idle =
     record { none = more.none; same = more.same ∙ one.same }
 
 -- ---- Basic mode, by the link's mode
-pub basic_mode : (l : Link) → l.mode ≡ Basic → is_safe l ≡ false
+pub basic_mode : (l : Link) → l.safety ≡ None → is_safe l ≡ false
 unfolding is_safe
 basic_mode l e = ap safe_in e
 
@@ -111,15 +109,15 @@ module _ (ts : List String) (n : ℕ) where
       ∙ books_both blank (trace at_power_up (lines ts ++ ticks_of n)) (trace there (ticks_of k))
 
   for_ever :
-      (run_of there).mode ≡ Stopped NoAlarm
-      → (link_of there).mode ≡ Basic
+      (run_of there).mode ≡ Stopped None
+      → (link_of there).safety ≡ None
       → (books_after ts n).doing ≡ nothing
       → (k : ℕ)
       → visits_in (books_after ts (n + k)) ≡ visits_in (books_after ts n)
   for_ever stops basic idle k =
       let sound : is_sound_pump there ≡ true = sound_after model_phases model (lines ts ++ ticks_of n) in
       let stands : Every Standing (trace there (ticks_of k)) =
-      stopped_stands there blank_buffer sound (omega arith) (basic_mode (link_of there) basic) NoAlarm stops k in
+      stopped_stands there blank_buffer sound (omega arith) (basic_mode (link_of there) basic) None stops k in
       let rest = all_rest (trace there (ticks_of k)) (books_after ts n) stands idle in
       ap visits_in (books_then k) ∙ ap₂ (λ (x : Doing) (ws : List Visit). in_progress x ∷ over ws) (rest.none ∙ sym idle) rest.same
 
@@ -129,8 +127,8 @@ record Ends (ts : List String) (n steps : ℕ) : Type 0 where
   at_end_lem : visits_in (books_after ts n) ≡ (0 ∷ 1 ∷ steps ∷ [])
   behind : visits_in (books_after ts (n + 1)) ≡ (0 ∷ 1 ∷ steps ∷ [])
   idle : (books_after ts (n + 1)).doing ≡ nothing
-  stops : (run_of (after at_power_up (lines ts ++ ticks_of (n + 1)))).mode ≡ Stopped NoAlarm
-  basic : (link_of (after at_power_up (lines ts ++ ticks_of (n + 1)))).mode ≡ Basic
+  stops : (run_of (after at_power_up (lines ts ++ ticks_of (n + 1)))).mode ≡ Stopped None
+  basic : (link_of (after at_power_up (lines ts ++ ticks_of (n + 1)))).safety ≡ None
 
 module _ (ts : List String) (n steps : ℕ) (h : Ends ts n steps) where
   from_then : (k : ℕ) → visits_in (books_after ts (n + k)) ≡ (0 ∷ 1 ∷ steps ∷ [])

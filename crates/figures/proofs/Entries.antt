@@ -3,15 +3,15 @@
 --     pause_stopped   and the pump is stopped
 --     pause_running   a tick earlier it runs
 -- Assumes nothing.
+use Rattle.std.specs.Prelude.{None}
 use Prim.Native.Nat.{ℕ, ◌+◌}
 use mathlib.Core.Path.{◌≡◌, refl, sym, ap, ap₂, ◌∙◌}
 use mathlib.Core.Bool.{false}
 use mathlib.Core.List.{◌++◌}
 use native.Mathlib.Nat.{zero-add}
+use Rattle.std.specs.Prelude.{None}
 use Rattle.program.specs.declared.state.Mode.TheVariants.{Stopped, Running}
-use Rattle.program.specs.declared.state.Pending.TheVariants.{NoAlarm}
 use Rattle.link.specs.Link.{is_safe}
-use Rattle.link.specs.declared.Mode.TheVariants.{Basic}
 use Rattle.pump.specs.Holder.{model_phases}
 use Rattle.pump.specs.declared.holder.Pump.{Pump}
 use Rattle.statement.specs.Facts.{link_of, run_of}
@@ -38,7 +38,7 @@ ready_whole : Whole ready
 unfolding ready
 ready_whole = whole_after model_phases model (lines nested)
 
-in_basic : (link_of ready).mode ≡ Basic
+in_basic : (link_of ready).safety ≡ None
 unfolding opened nested ready
 in_basic = refl
 
@@ -49,7 +49,7 @@ ready_basic = basic_mode (link_of ready) in_basic
 last : Tally
 last = tally 3 ready 4_370
 
-stops : last.place.run.mode ≡ Stopped NoAlarm
+stops : last.place.run.mode ≡ Stopped None
 unfolding opened nested ready tallying last
 stops = refl
 
@@ -63,7 +63,7 @@ sees = refl
 
 ever : (k : ℕ) → True 3 ready (waited last k)
 unfolding last
-ever k = for_ever 3 ready ready_whole ready_basic (tally 3 ready 4_370) (tallied 3 ready ready_whole ready_basic 4_370) NoAlarm stops k
+ever k = for_ever 3 ready ready_whole ready_basic (tally 3 ready 4_370) (tallied 3 ready ready_whole ready_basic 4_370) None stops k
 
 pub pause_entered : (k : ℕ) → entries 3 (trace at_power_up (lines nested ++ ticks_of (1_442_930 + k))) ≡ 1_440
 unfolding ready
@@ -75,7 +75,7 @@ pause_entered k =
     ∙ zero-add 1_440
 
 -- and then the pump is stopped, as it stays
-pub pause_stopped : (k : ℕ) → (run_of (after at_power_up (lines nested ++ ticks_of (1_442_930 + k)))).mode ≡ Stopped NoAlarm
+pub pause_stopped : (k : ℕ) → (run_of (after at_power_up (lines nested ++ ticks_of (1_442_930 + k)))).mode ≡ Stopped None
 unfolding ready
 pause_stopped k =
     ap (λ (p : Pump). (run_of p).mode)

@@ -11,14 +11,15 @@ use native.Mathlib.Nat.{add-zero, zero-add, add_assoc, le_refl}
 use native.Mathlib.Omega.{arith}
 use lib.Dec.{eqb}
 use lib.ListN.{length}
+use Rattle.std.specs.Prelude.{Option}
 use Rattle.base.proofs.Choices.{and_false}
+use Rattle.words.specs.declared.answers.Alarm.{Alarm}
 use Rattle.words.specs.declared.phases.Phase.{Phase}
 use Rattle.program.specs.Cores.{with_run}
 use Rattle.program.specs.Runs.{go_on, is_running, is_operating, is_entering}
 use Rattle.program.specs.declared.state.Core.{Core}
 use Rattle.program.specs.declared.state.Mode.{Mode}
 use Rattle.program.specs.declared.state.Mode.TheVariants.{Stopped, Paused, Running}
-use Rattle.program.specs.declared.state.Pending.{Pending}
 use Rattle.program.specs.declared.state.Run.{Run}
 use Rattle.program.specs.declared.state.Work.{Work}
 use Rattle.program.specs.declared.state.Work.TheVariants.{Entering, Visiting, Pausing, Waiting}
@@ -83,7 +84,7 @@ unfolding entering
 pausing_none phase r left e =
     ap (λ (x : Work). is_operating r && (is_entering x && eqb r.place.current phase)) e ∙ and_false (is_operating r)
 
-stopped_none : (phase : ℕ) (r : Run) (alarm : Pending) → r.mode ≡ Stopped alarm → entering phase r ≡ false
+stopped_none : (phase : ℕ) (r : Run) (alarm : Option Alarm) → r.mode ≡ Stopped alarm → entering phase r ≡ false
 unfolding entering
 stopped_none phase r alarm e = ap (λ (x : Mode). is_running x && (is_entering r.place.work && eqb r.place.current phase)) e
 
@@ -234,7 +235,7 @@ module _ (phase : ℕ) (p : Pump) (w : Whole p) (basic : is_safe (link_of p) ≡
   pub for_ever :
       (t : Tally)
       → True phase p t
-      → (alarm : Pending)
+      → (alarm : Option Alarm)
       → t.place.run.mode ≡ Stopped alarm
       → (k : ℕ)
       → True phase p (waited t k)

@@ -1,8 +1,9 @@
 -- A hop is that many ticks one after the other: none, a jump, a timed pause from its entry to its end.
 -- Assumes nothing.
+use Rattle.std.specs.Prelude.{None}
 use Prim.Native.Nat.{ℕ, zero, suc, ◌+◌, ◌≤◌, ◌<◌}
 use mathlib.Core.Path.{◌≡◌, refl, sym, ap, ◌∙◌}
-use mathlib.Core.Bool.{true, false, ◌&&◌}
+use mathlib.Core.Bool.{Bool, true, false, ◌&&◌}
 use native.Mathlib.Numerals.{add-one}
 use native.Mathlib.Omega.{arith}
 use lib.Dec.{ltb}
@@ -12,7 +13,6 @@ use Rattle.words.specs.Functions.{is_beep, is_out, pause_ticks}
 use Rattle.words.specs.declared.functions.Function.{Function}
 use Rattle.words.specs.declared.functions.Function.TheVariants.{Jmp, Pas}
 use Rattle.words.specs.declared.phases.Phase.{Phase}
-use Rattle.dispense.specs.declared.rates.Rate.TheVariants.{NoRate}
 use Rattle.program.specs.Cores.{with_run}
 use Rattle.program.specs.Runs.{with_rate, doing, go_to, go_on, is_entering, is_operating}
 use Rattle.program.specs.declared.state.Core.{Core}
@@ -91,7 +91,15 @@ module _ (r : Run) (f : Function) (n : ℕ) where
   unfolding ticks
   hops_none = hop_of 0 r (omega arith) refl (λ s look g. refl)
 
-  module _ (runs : is_operating r ≡ true) (at : is_entering r.place.work ≡ true) where
+  module _
+      (entering operating : Bool) (entering_is : entering ≡ is_entering r.place.work) (operating_is : operating ≡ is_operating r)
+      (both : (entering && operating) ≡ true) where
+    at : is_entering r.place.work ≡ true
+    at = sym entering_is ∙ and_left entering operating both
+
+    runs : is_operating r ≡ true
+    runs = sym operating_is ∙ and_right entering operating both
+
     -- the tick that enters
     first_tick :
         (x : Run) (g : Function) (s : Core) (look : ℕ → Phase)
@@ -108,14 +116,14 @@ module _ (r : Run) (f : Function) (n : ℕ) where
     hops_jump k x h e q = hop_of 1 x h (ap (λ (y : Run). y.mode) q) (λ s look g. first_tick x (Jmp k) s look (g ∙ e) refl refl q)
 
     abbrev paused : ℕ → Run
-    paused t = doing (with_rate r NoRate) (Pausing t)
+    paused t = doing (with_rate r None) (Pausing t)
 
     enters_pause : (t : ℕ) → 0 < t → paused t ≡ enter_pause r t
     unfolding enter_pause
     enters_pause t h = sym (rw (ne_eqb t 0 (λ e. omega arith)) refl)
 
     -- the tick that enters it, then those of the pause under way, which stays in its phase
-    makes_pause : (k t : ℕ) → f ≡ Pas k → t ≡ pause_ticks f → 0 < t → Makes (t + 1) (go_on (with_rate r NoRate))
+    makes_pause : (k t : ℕ) → f ≡ Pas k → t ≡ pause_ticks f → 0 < t → Makes (t + 1) (go_on (with_rate r None))
     makes_pause k t e d h s look g =
         let entry = enters_pause t h ∙ ap (enter_pause r) (d ∙ ap pause_ticks e) in
         whole_pause (with_run s (paused t)) (look r.place.current) t runs refl look refl h
@@ -127,7 +135,7 @@ module _ (r : Run) (f : Function) (n : ℕ) where
         → f ≡ Pas k
         → t ≡ pause_ticks f
         → (ltb 0 t && ltb t n) ≡ true
-        → y ≡ with_rate r NoRate
+        → y ≡ with_rate r None
         → x ≡ go_on y
         → Hop r f n (record { run = x; ticks = t + 1 })
     hops_pause k t y x e d h a q =

@@ -1,6 +1,6 @@
 -- A leap of a visit is that many ticks one after the other.
 -- Assumes nothing.
-use Rattle.std.specs.Prelude.{if◌then◌else◌}
+use Rattle.std.specs.Prelude.{if◌then◌else◌, Option, Some, None}
 use Prim.Native.Nat.{ℕ, zero, suc, ◌+◌, ◌*◌, ◌≤◌}
 use mathlib.Core.Path.{◌≡◌, refl, sym, ap, ◌∙◌, subst}
 use mathlib.Core.Bool.{Bool, true, false, ◌&&◌}
@@ -13,13 +13,11 @@ use Rattle.drive.specs.Rates.{hourly_rate}
 use Rattle.drive.specs.Syringe.{step_volume, step_threshold}
 use Rattle.drive.specs.declared.directions.Direction.{Direction}
 use Rattle.drive.specs.declared.directions.Direction.TheVariants.{Infuse, Withdraw}
-use Rattle.drive.specs.declared.rates.RateUnit.{RateUnit}
 use Rattle.words.specs.declared.phases.Phase.{Phase}
 use Rattle.dispense.specs.Ledgers.{most_total, total_of, book}
 use Rattle.dispense.specs.Visits.{steps_of, worked_of, is_done}
 use Rattle.dispense.specs.declared.ledgers.Ledger.{Ledger}
 use Rattle.dispense.specs.declared.rates.Rate.{Rate}
-use Rattle.dispense.specs.declared.rates.Rate.TheVariants.{NoRate, Current}
 use Rattle.dispense.specs.declared.visits.Visit.{Visit}
 use Rattle.program.specs.Cores.{with_run, with_ledger}
 use Rattle.program.specs.Runs.{doing, go_on, is_operating}
@@ -153,7 +151,7 @@ module _
       (rw (le-leb (total_of (after k).ledger p.direction + more) most_total fits)
       (λ i. record { run = run_on k h i; ledger = ledger_on k h i; steps = steps_of (visit k) hourly limit }))
 
-  module _ (unit : RateUnit) (x : ℕ) (rated : s.run.rate ≡ Current unit x) (e : hourly ≡ hourly_rate x unit) where
+  module _ (x : Rate) (rated : s.run.rate ≡ Some x) (e : hourly ≡ hourly_rate x.thousandths x.unit) where
     works_next : (k : ℕ) → Within (k + 1) → next k ≡ work_visit (after k).run (after k).ledger s.syringe p.direction (visit k)
     unfolding work_visit
     works_next k h =
@@ -243,8 +241,8 @@ leaps_visiting s p v n k g x runs f rated most e q =
     subst (Leap s p n) (sym (q ∙ ap (worked_for s p.direction) e)) (go s.run.rate refl)
   where
     go :
-        (rate : Rate)
+        (rate : Option Rate)
         → s.run.rate ≡ rate
         → Leap s p n (worked_for s p.direction (leap_by s.run s.ledger s.syringe p.direction v k rate))
-    go NoRate h = leap_stayed s p n
-    go (Current unit r) h = leap_tried s p v (hourly_rate r unit) (rated.gives r unit h) runs f unit r h refl n k most
+    go None h = leap_stayed s p n
+    go (Some r) h = leap_tried s p v (hourly_rate r.thousandths r.unit) (rated.gives r h) runs f r h refl n k most

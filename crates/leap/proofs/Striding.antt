@@ -10,7 +10,6 @@ use native.Mathlib.Omega.{arith}
 use lib.Dec.{leb}
 use borrow.Author.Tests.{leb-true}
 use Rattle.base.proofs.Each.{either}
-use Rattle.drive.specs.Syringe.{most_threshold}
 use Rattle.dispense.proofs.Counting.{taken_off, taken_at_most}
 use Rattle.leap.specs.Strides.{Steady, stride_steps, stride_store, stride_over}
 use Rattle.leap.specs.declared.strides.Stride.{Stride}
@@ -76,18 +75,6 @@ module _ (store hourly t k : ℕ) where
   abbrev long : ℕ
   long = k * (hourly / t) + k / 1000 * (1000 * rest / t) + first / t + second / t
 
-  -- how large its numbers are
-  pub record Sizes : Type 0 where
-    pub rest_small : rest ≤ most_threshold
-    pub thousands_small : k / 1000 * rest_thousand ≤ 1_767_150_000_000_000_000
-    pub ones_small : k % 1000 * rest ≤ 1_767_150_000_000_000_000
-    pub first_small : first ≤ 1_768_917_150_000_000_000
-    pub second_small : second ≤ 1_768_917_150_000_000_000
-    pub each_small : k * (hourly / t) ≤ 4_000_000
-    pub each_thousand_small : k / 1000 * (1000 * rest / t) ≤ 1_000_000
-    pub first_steps : first / t ≤ 1000
-    pub second_steps : second / t ≤ 1000
-
   module _ (w : Steady store hourly t) (few : k ≤ 1_000_000) where
     above_0 : 0 < t
     above_0 = omega (arith, w.store_below)
@@ -124,21 +111,14 @@ module _ (store hourly t k : ℕ) where
         let h : 1000 * rest / t < 1000 = (div-lt_iff_lt-mul above_0).1 (omega (arith, rest_below)) in
         omega arith
 
-    pub long_sizes : Sizes
-    long_sizes =
-        let a : first / t < 1001 = (div-lt_iff_lt-mul above_0).1 first_below in
-        let b : second / t < 1001 = (div-lt_iff_lt-mul above_0).1 second_below in
-        record {
-          rest_small = omega (arith, rest_below, w.bounded);
-          thousands_small = omega (arith, thousands_below, w.bounded);
-          ones_small = omega (arith, ones_below, w.bounded);
-          first_small = omega (arith, first_below, w.bounded);
-          second_small = omega (arith, second_below, w.bounded);
-          each_small = mul-le-mul few each_few;
-          each_thousand_small = mul-le-mul thousands_few each_thousand_few;
-          first_steps = omega (arith, a);
-          second_steps = omega (arith, b);
-        }
+    -- how many steps it has at most
+    pub long_small : long ≤ 5_002_000
+    long_small =
+        let a : k * (hourly / t) ≤ 4_000_000 = mul-le-mul few each_few in
+        let b : k / 1000 * (1000 * rest / t) ≤ 1_000_000 = mul-le-mul thousands_few each_thousand_few in
+        let d : first / t < 1001 = (div-lt_iff_lt-mul above_0).1 first_below in
+        let e : second / t < 1001 = (div-lt_iff_lt-mul above_0).1 second_below in
+        omega arith
 
     -- the rate and a thousand of its rests taken apart, times k and times the thousands of k
     parted : store + k * hourly ≡ second % t + long * t

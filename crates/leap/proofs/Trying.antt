@@ -6,7 +6,6 @@ use mathlib.Core.Bool.{Bool, true, false, ◌&&◌}
 use native.Mathlib.Nat.{mul-le-mul}
 use native.Mathlib.Omega.{arith}
 use lib.Dec.{leb}
-use Rattle.base.proofs.Choices.{and_left}
 use Rattle.drive.specs.Syringe.{most_diameter, step_volume, step_threshold}
 use Rattle.drive.specs.declared.directions.Direction.{Direction}
 use Rattle.drive.specs.declared.syringe.Syringe.{Syringe}
@@ -46,9 +45,6 @@ module _
       tested : (b : Bool) → (short && leb (total + w.steps * volume) most_total) ≡ b → is_within l y way v hourly k ≡ b
       unfolding stride_dose
       tested b e = rw (short-is, total_is, volume-is, strides, limit_is) at e
-
-      pub tested_short : (short && leb (total + w.steps * volume) most_total) ≡ true → is_short v w.steps ≡ true
-      tested_short e = sym short-is ∙ and_left short (leb (total + w.steps * volume) most_total) e
 
       pub leaps_within :
           (u : Visit) (x : Run) (z : Ledger)

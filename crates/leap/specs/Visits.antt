@@ -1,5 +1,5 @@
 -- Many working ticks of a visit at once.   (01, Ticks and phases, RAT; Volumes: the limit of a total)
-use Rattle.std.specs.Prelude.{ℕ, ◌+◌, ◌*◌, Bool, ◌&&◌, ◌||◌, ltb, leb, eqb, if◌then◌else◌}
+use Rattle.std.specs.Prelude.{ℕ, ◌+◌, ◌*◌, Bool, ◌&&◌, ◌||◌, ltb, leb, eqb, if◌then◌else◌, Option, Some, None}
 use Rattle.drive.specs.Rates.{hourly_rate}
 use Rattle.drive.specs.Syringe.{step_volume, step_threshold}
 use Rattle.drive.specs.declared.directions.Direction.{Direction}
@@ -7,7 +7,6 @@ use Rattle.drive.specs.declared.syringe.Syringe.{Syringe}
 use Rattle.dispense.specs.Ledgers.{most_total, total_of, book}
 use Rattle.dispense.specs.declared.ledgers.Ledger.{Ledger}
 use Rattle.dispense.specs.declared.rates.Rate.{Rate}
-use Rattle.dispense.specs.declared.rates.Rate.TheVariants.{NoRate, Current}
 use Rattle.dispense.specs.declared.visits.Visit.{Visit}
 use Rattle.program.specs.Runs.{doing}
 use Rattle.program.specs.declared.state.Run.{Run}
@@ -56,9 +55,9 @@ unfoldable pub leap_at : Run → Ledger → Syringe → Direction → Visit → 
 leap_at r l y way v hourly k = if is_within l y way v hourly k then strode r l y way v hourly k else none r l
 
 -- at the current rate; a sound visit has one
-abbrev pub leap_by : Run → Ledger → Syringe → Direction → Visit → ℕ → Rate → Strode
-leap_by r l y way v k NoRate = none r l
-leap_by r l y way v k (Current unit x) = leap_at r l y way v (hourly_rate x unit) k
+abbrev pub leap_by : Run → Ledger → Syringe → Direction → Visit → ℕ → Option Rate → Strode
+leap_by r l y way v k None = none r l
+leap_by r l y way v k (Some x) = leap_at r l y way v (hourly_rate x.thousandths x.unit) k
 
 unfoldable pub leap_visit : Run → Ledger → Syringe → Direction → Visit → ℕ → Strode
 leap_visit r l y way v k = leap_by r l y way v k r.rate

@@ -2,7 +2,6 @@
 ghost use Rattle.std.specs.Prelude.{◌≡◌, ◌≤◌};
 ghost use Rattle.leap.specs.Leaps.{Hop};
 
-use dispense::Rate;
 use program::Run;
 use words::Function;
 
@@ -20,9 +19,7 @@ pub fn hop(run: Run, function: Function, n: u32) -> Hopped
     requires { (run.place.current ≤ 100) × (1 ≤ n) }
     ensures { Hop run function n result }
 {
-    let place = run.place;
-    let work = place.work;
-    if work.is_entering() & run.is_operating() {
+    if run.place.work.is_entering() & run.is_operating() {
         if let Function::Jmp(k) = function {
             return Hopped {
                 run: run.go_to(k),
@@ -33,11 +30,11 @@ pub fn hop(run: Run, function: Function, n: u32) -> Hopped
             let ticks = function.pause_ticks();
             if (0 < ticks) & (ticks < n) {
                 return Hopped {
-                    run: run.with_rate(Rate::NoRate).go_on(),
+                    run: run.with_rate(None).go_on(),
                     ticks: ticks + 1,
                 };
             }
         }
     }
-    Hopped { run: run, ticks: 0 }
+    Hopped { run, ticks: 0 }
 }

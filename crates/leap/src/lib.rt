@@ -2,6 +2,7 @@
 // that they are that many ticks, one after the other; how many are tried is a guess, and nothing but speed rests on it.
 //
 //   hops       ticks that only move the program on
+//   pace       the time store of a visit, its rate and its threshold
 //   strides    the steps and the time store of many working ticks
 //   visits     many working ticks of a visit
 //   pauses     many ticks of a timed pause
@@ -9,6 +10,7 @@
 #![tactic(auto)]
 
 mod hops;
+mod pace;
 mod pauses;
 mod reach;
 mod strides;
@@ -47,18 +49,15 @@ pub fn leap(core: Core, here: Phase, n: u32) -> Leapt
     if !core.run.is_operating() {
         return silent_for(core, n);
     }
-    let place = core.run.place;
-    let work = place.work;
-    let direction = here.direction;
-    match work {
+    match core.run.place.work {
         Work::Entering => silent_for(core, 0),
         Work::Visiting(visit) => {
-            let ticks = reach(core.run, core.ledger, core.syringe, direction, visit, n);
+            let ticks = reach(core, here.direction, visit, n);
             if ticks == 0 {
                 return silent_for(core, 0);
             }
-            let strode = leap_visit(core.run, core.ledger, core.syringe, direction, visit, ticks);
-            worked_for(core, direction, strode)
+            let strode = leap_visit(core, here.direction, visit, ticks);
+            worked_for(core, here.direction, strode)
         }
         Work::Pausing(left) => {
             let ticks = before_last(left, n);
@@ -73,8 +72,8 @@ fn silent_for(core: Core, ticks: u32) -> Leapt
     ensures { result ≡ silent_for core ticks }
 {
     Leapt {
-        core: core,
-        ticks: ticks,
+        core,
+        ticks,
         infused: 0,
         withdrawn: 0,
     }
@@ -84,19 +83,17 @@ fn silent_for(core: Core, ticks: u32) -> Leapt
 fn worked_for(mut core: Core, direction: Direction, strode: Strode) -> Leapt
     ensures { result ≡ worked_for core direction strode }
 {
-    let run = strode.run;
-    let ledger = strode.ledger;
-    core.run = run;
-    core.ledger = ledger;
+    core.run = strode.run;
+    core.ledger = strode.ledger;
     match direction {
         Direction::Infuse => Leapt {
-            core: core,
+            core,
             ticks: strode.ticks,
             infused: strode.steps,
             withdrawn: 0,
         },
         Direction::Withdraw => Leapt {
-            core: core,
+            core,
             ticks: strode.ticks,
             infused: 0,
             withdrawn: strode.steps,

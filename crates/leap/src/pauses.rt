@@ -8,13 +8,7 @@ use program::{Run, Work};
 pub fn before_last(left: u32, n: u32) -> u32
     ensures { result ≡ min n (left - 1) }
 {
-    if left == 0 {
-        return 0;
-    }
-    if n < left {
-        return n;
-    }
-    left - 1
+    left.saturating_sub(1).min(n)
 }
 
 // So many ticks of a pause.

@@ -5,10 +5,11 @@ ghost use Rattle.leap.specs.Leaps.{most_ticks};
 ghost use Rattle.leap.specs.Visits.{is_short, visit_after, none, leap_at, leap_visit};
 ghost use Rattle.tick.specs.Working.{Giving, AtRate};
 
-use crate::strides::{Stride, stride_over};
-use dispense::{Ledger, Rate, Visit};
-use drive::{Direction, Syringe};
-use program::{Run, Work};
+use crate::pace::Pace;
+use crate::strides::Stride;
+use dispense::{Ledger, Visit};
+use drive::Direction;
+use program::{Core, Run, Work};
 
 // What some working ticks of a visit make of the program and the ledger, the steps that they give, and how many ticks they are.
 #[derive(Clone, Copy)]
@@ -20,65 +21,47 @@ pub struct Strode {
 }
 
 // So many working ticks of a visit, at the current rate, or none; a sound visit has a rate.
-pub fn leap_visit(
-    run: Run,
-    ledger: Ledger,
-    syringe: Syringe,
-    direction: Direction,
-    visit: Visit,
-    ticks: u32,
-) -> Strode
-    requires { AtRate run ledger syringe direction visit × (ticks ≤ most_ticks) }
-    ensures { result ≡ leap_visit run ledger syringe direction visit ticks }
+pub fn leap_visit(core: Core, direction: Direction, visit: Visit, ticks: u32) -> Strode
+    requires { AtRate core.run core.ledger core.syringe direction visit × (ticks ≤ most_ticks) }
+    ensures { result ≡ leap_visit core.run core.ledger core.syringe direction visit ticks }
 {
-    let rate = run.rate;
-    match rate {
-        Rate::NoRate => none(run, ledger),
-        Rate::Current(unit, x) => leap_at(
-            run,
-            ledger,
-            syringe,
-            direction,
-            visit,
-            drive::hourly_rate(x, unit),
-            ticks,
-        ),
-    }
+    let Some(rate) = core.run.rate else {
+        return none(core);
+    };
+    let hourly = drive::hourly_rate(rate.thousandths, rate.unit);
+    leap_at(core, direction, visit, hourly, ticks)
 }
 
-fn leap_at(
-    run: Run,
-    ledger: Ledger,
-    syringe: Syringe,
-    direction: Direction,
-    visit: Visit,
-    hourly: u64,
-    ticks: u32,
-) -> Strode
-    requires { Giving run ledger syringe direction visit hourly × (ticks ≤ most_ticks) }
-    ensures { result ≡ leap_at run ledger syringe direction visit hourly ticks }
+fn leap_at(core: Core, direction: Direction, visit: Visit, hourly: u64, ticks: u32) -> Strode
+    requires { Giving core.run core.ledger core.syringe direction visit hourly × (ticks ≤ most_ticks) }
+    ensures { result ≡ leap_at core.run core.ledger core.syringe direction visit hourly ticks }
 {
     let left = visit.target - visit.given;
-    let stride = stride_over(visit.store, hourly, syringe.step_threshold(), ticks, left);
-    let dose = stride.steps * syringe.step_volume();
+    let pace = Pace {
+        store: visit.store,
+        hourly,
+        threshold: core.syringe.step_threshold(),
+    };
+    let stride = pace.stride(ticks, left);
+    let dose = stride.steps * core.syringe.step_volume();
     let short = is_short(visit, stride.steps);
-    if short & (ledger.total_of(direction) + dose <= dispense::MOST_TOTAL) {
+    if short & (core.ledger.total_of(direction) + dose <= dispense::MOST_TOTAL) {
         return Strode {
-            run: run.doing(Work::Visiting(visit_after(visit, stride))),
-            ledger: ledger.book(direction, dose),
+            run: core.run.doing(Work::Visiting(visit_after(visit, stride))),
+            ledger: core.ledger.book(direction, dose),
             steps: stride.steps as u32,
-            ticks: ticks,
+            ticks,
         };
     }
-    none(run, ledger)
+    none(core)
 }
 
-fn none(run: Run, ledger: Ledger) -> Strode
-    ensures { result ≡ none run ledger }
+fn none(core: Core) -> Strode
+    ensures { result ≡ none core.run core.ledger }
 {
     Strode {
-        run: run,
-        ledger: ledger,
+        run: core.run,
+        ledger: core.ledger,
         steps: 0,
         ticks: 0,
     }
@@ -101,14 +84,14 @@ fn visit_after(visit: Visit, stride: Stride) -> Visit
     let target = visit.target;
     if target == 0 {
         return Visit {
-            given: given,
-            target: target,
+            given,
+            target,
             store: stride.store,
         };
     }
     Visit {
         given: given + stride.steps,
-        target: target,
+        target,
         store: stride.store,
     }
 }

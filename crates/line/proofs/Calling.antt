@@ -1,12 +1,12 @@
 -- The functions' names by their letters; and that a name which leads a text is the one that is called, so that no two compete.
 -- Assumes nothing.
-use Rattle.std.specs.Prelude.{if◌then◌else◌}
+use Rattle.std.specs.Prelude.{if◌then◌else◌, Option, Some, None}
 use Prim.Native.Nat.{ℕ, ◌≤◌}
 use mathlib.Core.Path.{◌≡◌, refl, sym, ap, subst, ◌∙◌}
 use mathlib.Core.Bool.{Bool, true, false}
 use mathlib.Core.List.{List, [], ◌∷◌}
 use native.Mathlib.Omega.{arith}
-use lib.ListN.{length, get_or, take}
+use lib.ListN.{length, get_or}
 use borrow.Author.Tests.{ne_eqb}
 use Rattle.base.specs.Text.{text, letter}
 use Rattle.base.proofs.Choices.{and_false}
@@ -15,9 +15,7 @@ use Rattle.words.specs.declared.functions.Function.{Function}
 use Rattle.words.specs.declared.functions.Function.TheVariants as f
 use Rattle.line.specs.Spelling.{leads}
 use Rattle.line.specs.Functions.{functions, called_in, called_by, called_among}
-use Rattle.line.specs.declared.functions.Called.{Called}
-use Rattle.line.specs.declared.functions.Called.TheVariants.{By, NoFunction}
-use Rattle.line.proofs.Leading.{leads_is, leads_within, front_long, front_within, front_leads}
+use Rattle.line.proofs.Leading.{leads_is, leads_within}
 
 -- ---- the letters that the code looks at leave one function to be tried
 abbrev Only : Function → List ℕ → Type 0
@@ -126,38 +124,36 @@ module _ (s : List ℕ) (a : ℕ) (d : a ≡ get_or s 0 0) where
   pub only_rat : NoFirst a → Only f.Rat s
   only_rat n = rate_left s (subst NoFirst d n)
 
--- ---- a name is the front of its three places
-module _ (g : Function) (places : List ℕ) (n : ℕ) (p : take (length (function_name g)) places ≡ function_name g) (q : n ≡ length (function_name g)) where
-  pub name_there : n ≡ length (take n places)
-  name_there = front_long (function_name g) places n p q
+-- ---- the name is there, or not
+module _ (g : Function) (s : List ℕ) (o : Only g s) (t : Bool) (e : t ≡ leads (function_name g) s) where
+  pub called : t ≡ true → Some g ≡ called_in s
+  called h = sym (o ∙ simp (sym e ∙ h))
 
-  pub name_within : n ≤ length places
-  name_within = front_within (function_name g) places n p q
-
-  module _ (s : List ℕ) (o : Only g s) (t : Bool) (e : t ≡ leads (take n places) s) where
-    pub called : t ≡ true → By g ≡ called_in s
-    called h = sym (o ∙ simp (front_leads (function_name g) places n p q s t e ∙ h))
-
-    pub not_called : t ≡ false → NoFunction ≡ called_in s
-    not_called h = sym (o ∙ simp (front_leads (function_name g) places n p q s t e ∙ h))
+  pub not_called : t ≡ false → None ≡ called_in s
+  not_called h = sym (o ∙ simp (sym e ∙ h))
 
 -- ---- a function that is called is named at the front of the text
-among_leads : (gs : List Function) (s : List ℕ) (g : Function) → called_among gs s ≡ By g → leads (function_name g) s ≡ true
+among_leads : (gs : List Function) (s : List ℕ) (g : Function) → called_among gs s ≡ Some g → leads (function_name g) s ≡ true
 among_leads [] s g e = let z : ◌≡◌ {A = ℕ} 0 1 = cc in absurd (omega arith)
 among_leads (h ∷ gs) s g e = go (leads (function_name h) s) refl e (among_leads gs s g)
   where
     go :
         (t : Bool)
         → leads (function_name h) s ≡ t
-        → (if t then By h else called_among gs s) ≡ By g
-        → (called_among gs s ≡ By g → leads (function_name g) s ≡ true)
+        → (if t then Some h else called_among gs s) ≡ Some g
+        → (called_among gs s ≡ Some g → leads (function_name g) s ≡ true)
         → leads (function_name g) s ≡ true
     go true p q k = let z : h ≡ g = cc in ap (λ (x : Function). leads (function_name x) s) (sym z) ∙ p
     go false p q k = k q
 
-pub called_within : (s : List ℕ) (r : Called) (g : Function) → r ≡ called_in s → r ≡ By g → length (function_name g) ≤ length s
+pub called_within :
+    (s : List ℕ) (r : Option Function) (g : Function) (name : List ℕ)
+    → r ≡ called_in s
+    → r ≡ Some g
+    → name ≡ function_name g
+    → length name ≤ length s
 unfolding called_in
-called_within s r g p q = leads_within (function_name g) s (among_leads functions s g (sym p ∙ q))
+called_within s r g name p q e = rw e (leads_within (function_name g) s (among_leads functions s g (sym p ∙ q)))
 
 -- ---- a name that leads a text is the one that is called
 -- the function that a name alone tells: its datum is 0, and PAS has whole seconds
@@ -178,7 +174,7 @@ bare f.Evr = f.Evr
 bare f.Bep = f.Bep
 bare (f.Out n) = f.Out 0
 
-pub called_is : (g : Function) (s : List ℕ) → leads (function_name g) s ≡ true → called_in s ≡ By (bare g)
+pub called_is : (g : Function) (s : List ℕ) → leads (function_name g) s ≡ true → called_in s ≡ Some (bare g)
 unfolding called_in leads
 called_is f.Rat s e = ap called_in (leads_is (text "RAT") s e)
 called_is f.Inc s e = ap called_in (leads_is (text "INC") s e)

@@ -3,7 +3,7 @@
 --     direction_back    a direction's name sets that direction
 --     function_back     a function's name, and its datum as answers print it, set that function
 -- Assumes nothing.
-use Rattle.std.specs.Prelude.{if◌then◌else◌}
+use Rattle.std.specs.Prelude.{if◌then◌else◌, Option}
 use Prim.Native.Nat.{ℕ, ◌-◌, ◌≤◌}
 use mathlib.Core.Path.{◌≡◌, refl, ap, ◌∙◌}
 use mathlib.Core.Bool.{Bool, true, false, ◌&&◌}
@@ -19,7 +19,6 @@ use Rattle.decimal.specs.Read.{read}
 use Rattle.decimal.specs.Short.{read_one, read_two, read_tenths}
 use Rattle.decimal.specs.Print.{last_digit, print, print_two, print_tenths}
 use Rattle.decimal.specs.Writable.{is_writable}
-use Rattle.decimal.specs.declared.short.Short.{Short}
 use Rattle.decimal.proofs.Bytes.{bytes}
 use Rattle.decimal.proofs.Theorems.{round_trip, two_digits_read, tenths_read}
 use Rattle.drive.specs.declared.rates.RateUnit.{RateUnit}
@@ -28,14 +27,13 @@ use Rattle.drive.specs.declared.directions.Direction.{Direction}
 use Rattle.drive.specs.declared.directions.Direction.TheVariants.{Infuse, Withdraw}
 use Rattle.words.specs.Functions.{number, fits}
 use Rattle.words.specs.Spelling.{function_name, datum_text, rate_letters, direction_letters}
-use Rattle.words.specs.declared.commands.Units.{Units}
-use Rattle.words.specs.declared.commands.Units.TheVariants.{Given}
+use Rattle.std.specs.Prelude.{Option, Some}
 use Rattle.words.specs.declared.commands.Command.TheVariants as c
 use Rattle.words.specs.declared.functions.Function.{Function}
 use Rattle.words.specs.declared.functions.Function.TheVariants as f
 use Rattle.words.proofs.Names.{name_length_is}
 use Rattle.line.specs.Spelling.{leads, is_text}
-use Rattle.line.specs.Arguments.{if_number, if_digits, unless_more, units_of, units_at_end, without_units, amount_of}
+use Rattle.line.specs.Arguments.{if_number, unless_more, units_of, units_at_end, without_units, amount_of}
 use Rattle.line.specs.Arguments.{rate_asked, heading_of, direction_asked}
 use Rattle.line.specs.Functions.{called_in, pause_by, pause_asked, with_datum, function_by, function_asked}
 use Rattle.line.proofs.Asking.{sets}
@@ -48,7 +46,7 @@ unit_length Mm = refl
 unit_length Uh = refl
 unit_length Mh = refl
 
-unit_back : (u : RateUnit) → units_of (rate_letters u) ≡ Given u
+unit_back : (u : RateUnit) → units_of (rate_letters u) ≡ Some u
 unfolding units_of is_text leads
 unit_back Um = refl
 unit_back Mm = refl
@@ -62,7 +60,7 @@ module _ (number : List ℕ) (u : RateUnit) where
   before_units : length sent - 2 ≡ length number
   before_units = omega (arith, length-append number (rate_letters u), unit_length u)
 
-  units_back : units_at_end sent ≡ Given u
+  units_back : units_at_end sent ≡ Some u
   unfolding units_at_end
   units_back =
       ap (λ (n : ℕ). units_of (drop n sent)) before_units
@@ -72,14 +70,14 @@ module _ (number : List ℕ) (u : RateUnit) where
   amount_back : amount_of sent ≡ number
   unfolding amount_of
   amount_back =
-      ap (λ (v : Units). without_units v sent) units_back
+      ap (λ (v : Option RateUnit). without_units v sent) units_back
       ∙ ap (λ (n : ℕ). take n sent) before_units
       ∙ take_at number (rate_letters u) (length number) refl
 
   some_length : length sent ≡ 0 → ⊥
   some_length e = omega (arith, length-append number (rate_letters u), unit_length u)
 
-pub rate_back : (x : ℕ) (u : RateUnit) → is_writable x ≡ true → rate_asked (print x ++ rate_letters u) ≡ c.SetRate x (Given u)
+pub rate_back : (x : ℕ) (u : RateUnit) → is_writable x ≡ true → rate_asked (print x ++ rate_letters u) ≡ c.SetRate x (Some u)
 unfolding rate_asked
 rate_back x u w =
     let s = print x ++ rate_letters u in
@@ -128,19 +126,19 @@ behind_name g t =
 at_most : (t : Bool) (n most : ℕ) → (t && leb n most) ≡ true → n ≤ most
 at_most t n most e = leb-true n most (and_right t (leb n most) e)
 
-two_back : (g : ℕ → Function) (n : ℕ) → n ≤ 99 → if_digits (λ k. c.SetFunction (g k)) (read_two (print_two n)) ≡ c.SetFunction (g n)
-two_back g n h = ap (if_digits (λ k. c.SetFunction (g k))) (two_digits_read n (omega arith))
+two_back : (g : ℕ → Function) (n : ℕ) → n ≤ 99 → if_number (λ k. c.SetFunction (g k)) (read_two (print_two n)) ≡ c.SetFunction (g n)
+two_back g n h = ap (if_number (λ k. c.SetFunction (g k))) (two_digits_read n (omega arith))
 
 seconds_back : (n : ℕ) → n ≤ 99 → pause_asked (print_two n) ≡ c.SetFunction (f.Pas n)
 unfolding pause_asked
-seconds_back n h = ap (λ (r : Short). pause_by r (read_tenths (print_two n))) (two_digits_read n (omega arith))
+seconds_back n h = ap (λ (r : Option ℕ). pause_by r (read_tenths (print_two n))) (two_digits_read n (omega arith))
 
 -- three characters are no whole seconds
 tenths_back : (n : ℕ) → n ≤ 99 → pause_asked (print_tenths n) ≡ c.SetFunction (f.Tenths n)
 unfolding pause_asked read_two print_tenths
-tenths_back n h = ap (if_digits (λ k. c.SetFunction (f.Tenths k))) (tenths_read n (omega arith))
+tenths_back n h = ap (if_number (λ k. c.SetFunction (f.Tenths k))) (tenths_read n (omega arith))
 
-level_back : (n : ℕ) → n ≤ 1 → if_digits (λ k. c.SetFunction (f.Out k)) (read_one (last_digit n ∷ [])) ≡ c.SetFunction (f.Out n)
+level_back : (n : ℕ) → n ≤ 1 → if_number (λ k. c.SetFunction (f.Out k)) (read_one (last_digit n ∷ [])) ≡ c.SetFunction (f.Out n)
 unfolding read_one
 level_back n h = simp bytes (ap (λ (k : ℕ). c.SetFunction (f.Out k)) (mod-eq_of_lt {n = n} {m = 10} (omega arith)))
 

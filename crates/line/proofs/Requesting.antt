@@ -1,7 +1,8 @@
 -- What a text asks for of the link or of the pump, by what was read from it, and what such a request can hold.
 -- Assumes nothing.
-use Rattle.std.specs.Prelude.{if◌then◌else◌}
-use Prim.Native.Nat.{ℕ, ◌-◌, ◌≤◌, min}
+use Rattle.std.specs.Prelude.{if◌then◌else◌, Option, Some, None}
+use Rattle.std.specs.Cmp.Lexicographic.{pointwise}
+use Prim.Native.Nat.{ℕ, ◌≤◌}
 use mathlib.Core.Path.{◌≡◌, refl, sym, ap, ◌∙◌}
 use mathlib.Core.Bool.{Bool, true, false}
 use mathlib.Core.List.{List}
@@ -10,23 +11,19 @@ use lib.ListN.{length, take, drop}
 use borrow.Author.Tests.{eq-eqb, ne_eqb}
 use Rattle.base.specs.Text.{text}
 use Rattle.decimal.specs.Short.{read_three}
-use Rattle.decimal.specs.declared.short.Three.{Three}
-use Rattle.decimal.specs.declared.short.Three.TheVariants.{Number, NoNumber}
 use Rattle.decimal.proofs.ThreeDigits.{three_small}
 use Rattle.words.specs.declared.commands.Command.{Command}
 use Rattle.words.specs.declared.commands.Command.TheVariants.{Malformed}
 use Rattle.words.specs.declared.commands.Request.{Request}
 use Rattle.words.specs.declared.commands.Request.TheVariants.{AskLimit, SetLimit, Pump}
-use Rattle.words.specs.declared.commands.Asked.{Asked}
 use Rattle.line.specs.Addresses.{address_of, unaddressed}
 use Rattle.line.specs.Spelling.{leads}
 use Rattle.line.specs.Commands.{command_of}
-use Rattle.line.specs.Lines.{line_text, address_in}
+use Rattle.line.specs.Lines.{line_text}
 use Rattle.line.specs.Requests.{limit_by, limit_asked, request_of, asked_of, asked_in}
 use Rattle.line.specs.Sendable.{Sendable}
 use Rattle.line.specs.declared.lines.Line.{Line}
-use Rattle.line.proofs.Leading.{leads_within, part_behind}
-use Rattle.line.proofs.Collecting.{take_held}
+use Rattle.line.proofs.Leading.{stripped}
 use Rattle.line.proofs.Sent.{malformed, command_sendable}
 
 -- ---- SAF by what stands behind it
@@ -35,32 +32,31 @@ module _ (s : List ℕ) where
   unfolding limit_asked
   asks_limit e = sym (simp (eq-eqb (length s) 0 e))
 
-  module _ (n : length s ≡ 0 → ⊥) (u : Three) (p : u ≡ read_three s) where
-    pub sets_limit : (x : ℕ) → u ≡ Number x → SetLimit x ≡ limit_asked s
+  module _ (n : length s ≡ 0 → ⊥) (u : Option ℕ) (p : u ≡ read_three s) where
+    pub sets_limit : (x : ℕ) → u ≡ Some x → SetLimit x ≡ limit_asked s
     unfolding limit_asked
     sets_limit x e = ap limit_by (sym e ∙ p) ∙ sym (simp (ne_eqb (length s) 0 n))
 
-    pub no_limit : u ≡ NoNumber → Pump Malformed ≡ limit_asked s
+    pub no_limit : u ≡ None → Pump Malformed ≡ limit_asked s
     unfolding limit_asked
     no_limit e = ap limit_by (sym e ∙ p) ∙ sym (simp (ne_eqb (length s) 0 n))
 
 pub ruleset limits = (asks_limit, sets_limit, no_limit)
 
 -- ---- whether SAF leads the text
-module _ (s : List ℕ) (t : Bool) (p : t ≡ leads (text "SAF") s) where
-  module _ (e : t ≡ true) where
-    pub name_within : 3 ≤ length s
-    name_within = leads_within (text "SAF") s (sym p ∙ e)
-
-    pub of_link : (r : Request) → r ≡ limit_asked (take (length s - 3) (drop 3 s)) → r ≡ request_of s
-    unfolding request_of
-    of_link r q = q ∙ ap limit_asked (part_behind s 3) ∙ sym (simp (sym p ∙ e))
-
-  pub of_pump : t ≡ false → (command : Command) → command ≡ command_of s → Pump command ≡ request_of s
+module _ (s : List ℕ) where
+  pub of_link :
+      (rest : List ℕ) (r : Request)
+      → pointwise eqb (take 3 s) (text "SAF") ≡ true
+      → rest ≡ drop 3 s
+      → r ≡ limit_asked rest
+      → r ≡ request_of s
   unfolding request_of
-  of_pump e command q = ap Pump q ∙ sym (simp (sym p ∙ e))
+  of_link rest r e p q = q ∙ ap limit_asked p ∙ sym (simp (sym (stripped (text "SAF") s) ∙ e))
 
-pub ruleset requests = (name_within, of_link, of_pump)
+  pub of_pump : (command : Command) → pointwise eqb (take 3 s) (text "SAF") ≡ false → command ≡ command_of s → Pump command ≡ request_of s
+  unfolding request_of
+  of_pump command e q = ap Pump q ∙ sym (simp (sym (stripped (text "SAF") s) ∙ e))
 
 -- ---- with the address
 pub asked_whole :
@@ -72,23 +68,6 @@ pub asked_whole :
 unfolding asked_of
 asked_whole s rest a r p q k = rw (p, k, q)
 
--- a line by the part of its array that is kept
-module _ (l : Line) (n : ℕ) (full : length l.bytes ≡ 40) (e : n ≡ min l.len 40) where
-  kept_text : take n l.bytes ≡ line_text l
-  kept_text = take_held l.bytes l.len n full e
-
-  pub overlong_asked :
-      (a : ℕ)
-      → l.overlong ≡ true
-      → a ≡ address_of (take n l.bytes)
-      → record { address = a; request = Pump Malformed } ≡ asked_in l
-  unfolding asked_in address_in
-  overlong_asked a o p = rw (p, kept_text) (simp o)
-
-  pub asked_kept : (r : Asked) → l.overlong ≡ false → r ≡ asked_of (take n l.bytes) → r ≡ asked_in l
-  unfolding asked_of asked_in address_in
-  asked_kept r o p = p ∙ ap asked_of kept_text ∙ sym (simp o)
-
 -- ---- what a request can hold: a limit has three digits at the most, a command can be sent
 abbrev pub Holdable : Request → Type 0
 Holdable AskLimit = Unit {0}
@@ -99,9 +78,9 @@ limit_holdable : (s : List ℕ) → Holdable (limit_asked s)
 unfolding limit_asked
 limit_holdable s = by_length (eqb (length s) 0)
   where
-    by_reading : (u : Three) → read_three s ≡ u → Holdable (limit_by u)
-    by_reading (Number n) e = three_small s n e
-    by_reading NoNumber e = malformed
+    by_reading : (u : Option ℕ) → read_three s ≡ u → Holdable (limit_by u)
+    by_reading (Some n) e = three_small s n e
+    by_reading None e = malformed
 
     by_length : (t : Bool) → Holdable (if t then AskLimit else limit_by (read_three s))
     by_length true = tt

@@ -1,10 +1,8 @@
 -- What a text asks for, and whose address it bears. SAF is asked of the link that the text came by, everything else of the pump.
 -- (02, 2/12)
-use Rattle.std.specs.Prelude.{ℕ, List, eqb, length, drop, if◌then◌else◌}
+use Rattle.std.specs.Prelude.{ℕ, List, eqb, length, drop, if◌then◌else◌, Option, Some, None}
 use Rattle.base.specs.Text.{text}
 use Rattle.decimal.specs.Short.{read_three}
-use Rattle.decimal.specs.declared.short.Three.{Three}
-use Rattle.decimal.specs.declared.short.Three.TheVariants.{Number, NoNumber}
 use Rattle.words.specs.declared.commands.Command.TheVariants.{Malformed}
 use Rattle.words.specs.declared.commands.Request.{Request}
 use Rattle.words.specs.declared.commands.Request.TheVariants.{AskLimit, SetLimit, Pump}
@@ -16,9 +14,9 @@ use Rattle.line.specs.Lines.{line_text, address_in}
 use Rattle.line.specs.declared.lines.Line.{Line}
 
 -- one to three digits are the limit in seconds, in range or not; anything else is malformed
-abbrev pub limit_by : Three → Request
-limit_by (Number n) = SetLimit n
-limit_by NoNumber = Pump Malformed
+abbrev pub limit_by : Option ℕ → Request
+limit_by (Some n) = SetLimit n
+limit_by None = Pump Malformed
 
 -- SAF, SAF n   (02, 2/12: "`SAF n` (one to three digits ..) sets a time limit in seconds .. Query: three digits")
 unfoldable pub limit_asked : List ℕ → Request

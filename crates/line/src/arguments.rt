@@ -1,45 +1,53 @@
 // What stands behind a name: nothing, a number, a rate with or without its units, a direction, a phase.
-ghost use Rattle.std.specs.Prelude.{◌≡◌, [], ◌∷◌};
-ghost use Rattle.line.specs.Arguments.{units_of, units_at_end, amount_of, heading_of, headed_by, unless_more};
+ghost use Rattle.std.specs.Prelude.{◌≡◌, [], ◌∷◌, length, MatchOption};
+ghost use Rattle.line.specs.Arguments.{units_of, units_at_end, amount_of, heading_of, unless_more};
 ghost use Rattle.line.specs.Arguments.{diameter_asked, volume_asked, rate_asked, direction_asked, clear_asked, phase_asked, run_asked};
 
-use crate::spelling::{is_text, letter};
-use decimal::{Reading, Short};
 use drive::{Direction, RateUnit};
-use words::{Command, Units};
+use words::Command;
 
-// A direction as DIR and CLD name it.
+// A direction as DIR and CLD name it. REV is the other direction, and not the lack of one.
 #[derive(Clone, Copy)]
 pub enum Heading {
     To(Direction),
     Reverse,
-    NoHeading,
+}
+
+// What a name asks for: its query where nothing stands behind it, else the setting of what was read there, if it reads.
+fn asked<T: Copy, F: FnOnce(T) -> Command + Drop>(
+    s: &[u8],
+    query: Command,
+    read: Option<T>,
+    setting: F,
+) -> Command
+    requires { F.IsAlwaysCallable setting }
+    ensures query { length s.now ≡ 0 → result ≡ query }
+    ensures setting { (length s.now ≡ 0 → ⊥) → MatchOption read (result ≡ Command.Malformed) (λ x. F.post setting x result) }
+{
+    if s.is_empty() {
+        query
+    } else {
+        read.map_or(Command::Malformed, setting)
+    }
 }
 
 // DIA
 pub fn diameter_asked(s: &[u8]) -> Command
     ensures { result ≡ diameter_asked s.now }
 {
-    if s.len() == 0 {
-        return Command::AskDiameter;
-    }
-    match decimal::read(s) {
-        Reading::Number(x) => Command::SetDiameter(x),
-        Reading::NoNumber => Command::Malformed,
-    }
+    asked(
+        s,
+        Command::AskDiameter,
+        decimal::read(s),
+        Command::SetDiameter,
+    )
 }
 
 // VOL
 pub fn volume_asked(s: &[u8]) -> Command
     ensures { result ≡ volume_asked s.now }
 {
-    if s.len() == 0 {
-        return Command::AskVolume;
-    }
-    match decimal::read(s) {
-        Reading::Number(x) => Command::SetVolume(x),
-        Reading::NoNumber => Command::Malformed,
-    }
+    asked(s, Command::AskVolume, decimal::read(s), Command::SetVolume)
 }
 
 // RAT: the last two letters may be units, and the number is what stands before them.
@@ -52,38 +60,31 @@ pub fn rate_asked(s: &[u8]) -> Command
     }
     let units = units_at_end(s);
     match decimal::read(amount_of(s)) {
-        Reading::Number(x) => Command::SetRate(x, units),
-        Reading::NoNumber => Command::Malformed,
+        Some(x) => Command::SetRate(x, units),
+        None => Command::Malformed,
     }
 }
 
 // The units at the end of a rate.
-fn units_at_end(s: &[u8]) -> Units
+fn units_at_end(s: &[u8]) -> Option<RateUnit>
     ensures { result ≡ units_at_end s.now }
 {
-    let n = s.len();
-    if n < 2 {
-        return Units::Own;
-    }
-    units_of(s[n - 2], s[n - 1])
+    let [.., volume, time] = s else {
+        return None;
+    };
+    units_of(*volume, *time)
 }
 
 // The units of two letters.
-fn units_of(volume: u8, time: u8) -> Units
+fn units_of(volume: u8, time: u8) -> Option<RateUnit>
     ensures { result ≡ units_of (volume ∷ time ∷ []) }
 {
-    match volume {
-        b'U' => match time {
-            b'M' => return Units::Given(RateUnit::Um),
-            b'H' => return Units::Given(RateUnit::Uh),
-            _ => return Units::Own,
-        },
-        b'M' => match time {
-            b'M' => return Units::Given(RateUnit::Mm),
-            b'H' => return Units::Given(RateUnit::Mh),
-            _ => return Units::Own,
-        },
-        _ => return Units::Own,
+    match (volume, time) {
+        (b'U', b'M') => Some(RateUnit::Um),
+        (b'M', b'M') => Some(RateUnit::Mm),
+        (b'U', b'H') => Some(RateUnit::Uh),
+        (b'M', b'H') => Some(RateUnit::Mh),
+        _ => None,
     }
 }
 
@@ -91,26 +92,23 @@ fn units_of(volume: u8, time: u8) -> Units
 fn amount_of(s: &[u8]) -> &[u8]
     ensures { result.now ≡ amount_of s.now }
 {
-    match units_at_end(s) {
-        Units::Own => s,
-        Units::Given(_) => {
-            let n = s.len() - 2;
-            &s[..n]
-        }
+    if units_at_end(s).is_none() {
+        return s;
     }
+    &s[..s.len() - 2]
 }
 
 // DIR
 pub fn direction_asked(s: &[u8]) -> Command
     ensures { result ≡ direction_asked s.now }
 {
-    if s.len() == 0 {
+    if s.is_empty() {
         return Command::AskDirection;
     }
     match heading_of(s) {
-        Heading::To(d) => Command::SetDirection(d),
-        Heading::Reverse => Command::Reverse,
-        Heading::NoHeading => Command::Malformed,
+        Some(Heading::To(d)) => Command::SetDirection(d),
+        Some(Heading::Reverse) => Command::Reverse,
+        None => Command::Malformed,
     }
 }
 
@@ -119,73 +117,49 @@ pub fn clear_asked(s: &[u8]) -> Command
     ensures { result ≡ clear_asked s.now }
 {
     match heading_of(s) {
-        Heading::To(d) => Command::Clear(d),
-        Heading::Reverse => Command::Malformed,
-        Heading::NoHeading => Command::Malformed,
+        Some(Heading::To(d)) => Command::Clear(d),
+        _ => Command::Malformed,
     }
 }
 
-// The words for a direction, and for the other one.
-const INF: [u8; 3] = *b"INF";
-
-const WDR: [u8; 3] = *b"WDR";
-
-const REV: [u8; 3] = *b"REV";
-
-// INF, WDR or REV, and no more. The first letter tells which word it can be.
-fn heading_of(s: &[u8]) -> Heading
+// INF, WDR or REV, and no more.
+fn heading_of(s: &[u8]) -> Option<Heading>
     ensures { result ≡ heading_of s.now }
 {
-    match letter(s, 0) {
-        b'I' => headed_by(Heading::To(Direction::Infuse), INF, s),
-        b'W' => headed_by(Heading::To(Direction::Withdraw), WDR, s),
-        b'R' => headed_by(Heading::Reverse, REV, s),
-        _ => Heading::NoHeading,
+    match s {
+        b"INF" => Some(Heading::To(Direction::Infuse)),
+        b"WDR" => Some(Heading::To(Direction::Withdraw)),
+        b"REV" => Some(Heading::Reverse),
+        _ => None,
     }
-}
-
-// `heading` if `s` is its word.
-fn headed_by(heading: Heading, word: [u8; 3], s: &[u8]) -> Heading
-    ensures { result ≡ headed_by heading word s.now }
-{
-    if is_text(word, s) {
-        return heading;
-    }
-    Heading::NoHeading
 }
 
 // PHN
 pub fn phase_asked(s: &[u8]) -> Command
     ensures { result ≡ phase_asked s.now }
 {
-    if s.len() == 0 {
-        return Command::AskPhase;
-    }
-    match decimal::read_two(s) {
-        Short::Digits(n) => Command::SetPhase(n),
-        Short::NoDigits => Command::Malformed,
-    }
+    asked(
+        s,
+        Command::AskPhase,
+        decimal::read_two(s),
+        Command::SetPhase,
+    )
 }
 
 // RUN
 pub fn run_asked(s: &[u8]) -> Command
     ensures { result ≡ run_asked s.now }
 {
-    if s.len() == 0 {
-        return Command::Run;
-    }
-    match decimal::read_two(s) {
-        Short::Digits(n) => Command::RunFrom(n),
-        Short::NoDigits => Command::Malformed,
-    }
+    asked(s, Command::Run, decimal::read_two(s), Command::RunFrom)
 }
 
 // A command that takes no argument, or a function that takes no datum.
 pub fn unless_more(s: &[u8], command: Command) -> Command
     ensures { result ≡ unless_more s.now command }
 {
-    if s.len() == 0 {
-        return command;
+    if s.is_empty() {
+        command
+    } else {
+        Command::Malformed
     }
-    Command::Malformed
 }

@@ -22,7 +22,7 @@ pub fn arrival_of(b: u8) -> Arrival
     }
 }
 
-// Whether a line can hold the character `c`: one that arrives as it is.
+// Whether a line can hold the character `c`: one that arrives as it is. A match on byte ranges, as document 01 names it.
 pub fn can_stand(c: u8) -> bool
     ensures { result ≡ can_stand c }
 {

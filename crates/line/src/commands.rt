@@ -14,13 +14,16 @@ use words::Command;
 pub fn command_of(s: &[u8]) -> Command
     ensures { result ≡ command_of s.now }
 {
-    if s.len() == 0 {
+    if s.is_empty() {
         return Command::Status;
     }
-    asked_by(name_of(s), argument_of(s))
+    match name_of(s) {
+        Some(name) => asked_by(name, argument_of(s)),
+        None => Command::Malformed,
+    }
 }
 
-// What each name's argument asks for.
+// What each name's argument asks for. The names are known and closed: a match, and no table of functions.
 fn asked_by(name: Name, rest: &[u8]) -> Command
     ensures { result ≡ asked_by name rest.now }
 {
@@ -36,6 +39,5 @@ fn asked_by(name: Name, rest: &[u8]) -> Command
         Name::Dis => unless_more(rest, Command::AskDispensed),
         Name::Cld => clear_asked(rest),
         Name::Reset => unless_more(rest, Command::Reset),
-        Name::Unknown => Command::Malformed,
     }
 }

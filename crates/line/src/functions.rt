@@ -4,44 +4,32 @@ ghost use Rattle.words.specs.Spelling.{function_name};
 ghost use Rattle.line.specs.Functions.{called_in, called_by, holding, if_held, pause_asked, with_datum, function_asked};
 
 use crate::arguments::unless_more;
-use crate::spelling::{leads, letter};
-use decimal::Short;
+use crate::spelling::letter;
 use words::{Command, Function};
-
-// The function whose name leads a text; its datum is still 0.
-#[derive(Clone, Copy)]
-pub enum Called {
-    By(Function),
-    NoFunction,
-}
 
 // FUN
 pub fn function_asked(s: &[u8]) -> Command
     ensures { result ≡ function_asked s.now }
 {
-    if s.len() == 0 {
+    if s.is_empty() {
         return Command::AskFunction;
     }
     match called_in(s) {
-        Called::By(f) => {
-            let n = f.name_length();
-            with_datum(f, &s[n..])
-        }
-        Called::NoFunction => Command::Malformed,
+        Some(f) => with_datum(f, &s[f.name().len()..]),
+        None => Command::Malformed,
     }
 }
 
-// The function whose name leads `s`.
-fn called_in(s: &[u8]) -> Called
+// The function whose name leads `s`; its datum is still 0.
+fn called_in(s: &[u8]) -> Option<Function>
     ensures { result ≡ called_in s.now }
 {
     let f = only_function(s);
-    let name = f.letters();
-    let n = f.name_length();
-    if leads(&name[..n], s) {
-        return Called::By(f);
+    if s.starts_with(f.name()) {
+        Some(f)
+    } else {
+        None
     }
-    Called::NoFunction
 }
 
 // The only function whose name can lead `s`: up to three letters tell which, and letters that begin no name leave RAT.
@@ -52,25 +40,25 @@ fn only_function(s: &[u8]) -> Function
     let third = letter(s, 2);
     match letter(s, 0) {
         b'I' => match second {
-            b'N' => return Function::Inc,
-            _ => return Function::If(0),
+            b'N' => Function::Inc,
+            _ => Function::If(0),
         },
-        b'D' => return Function::Dec,
-        b'S' => return Function::Stp,
-        b'J' => return Function::Jmp(0),
+        b'D' => Function::Dec,
+        b'S' => Function::Stp,
+        b'J' => Function::Jmp(0),
         b'L' => match third {
-            b'P' => return Function::Lop(0),
-            b'S' => return Function::Lps,
-            _ => return Function::Lpe,
+            b'P' => Function::Lop(0),
+            b'S' => Function::Lps,
+            _ => Function::Lpe,
         },
-        b'P' => return Function::Pas(0),
+        b'P' => Function::Pas(0),
         b'E' => match third {
-            b'N' => return Function::Evn(0),
-            _ => return Function::Evr,
+            b'N' => Function::Evn(0),
+            _ => Function::Evr,
         },
-        b'B' => return Function::Bep,
-        b'O' => return Function::Out(0),
-        _ => return Function::Rat,
+        b'B' => Function::Bep,
+        b'O' => Function::Out(0),
+        _ => Function::Rat,
     }
 }
 
@@ -78,17 +66,14 @@ fn only_function(s: &[u8]) -> Function
 fn with_datum(f: Function, s: &[u8]) -> Command
     ensures { result ≡ with_datum f s.now }
 {
-    let n = f.number();
-    if f.takes_phase() | (n == 5) {
-        return if_held(f, decimal::read_two(s));
+    match f {
+        Function::Jmp(_) | Function::Lop(_) | Function::If(_) | Function::Evn(_) => {
+            if_held(f, decimal::read_two(s))
+        }
+        Function::Pas(_) | Function::Tenths(_) => pause_asked(s),
+        Function::Out(_) => if_held(f, decimal::read_one(s)),
+        _ => unless_more(s, Command::SetFunction(f)),
     }
-    if (n == 8) | (n == 9) {
-        return pause_asked(s);
-    }
-    if f.is_out() {
-        return if_held(f, decimal::read_one(s));
-    }
-    unless_more(s, Command::SetFunction(f))
 }
 
 // PAS: whole seconds, or tenths.
@@ -96,18 +81,18 @@ fn pause_asked(s: &[u8]) -> Command
     ensures { result ≡ pause_asked s.now }
 {
     match decimal::read_two(s) {
-        Short::Digits(n) => Command::SetFunction(Function::Pas(n)),
-        Short::NoDigits => if_held(Function::Tenths(0), decimal::read_tenths(s)),
+        Some(n) => Command::SetFunction(Function::Pas(n)),
+        None => if_held(Function::Tenths(0), decimal::read_tenths(s)),
     }
 }
 
 // `f` with the digits that were read, if there were any.
-fn if_held(f: Function, digits: Short) -> Command
+fn if_held(f: Function, digits: Option<u8>) -> Command
     ensures { result ≡ if_held f digits }
 {
     match digits {
-        Short::Digits(n) => Command::SetFunction(holding(f, n)),
-        Short::NoDigits => Command::Malformed,
+        Some(n) => Command::SetFunction(holding(f, n)),
+        None => Command::Malformed,
     }
 }
 
@@ -116,20 +101,13 @@ fn holding(f: Function, n: u8) -> Function
     ensures { result ≡ holding f n }
 {
     match f {
-        Function::Rat => Function::Rat,
-        Function::Inc => Function::Inc,
-        Function::Dec => Function::Dec,
-        Function::Stp => Function::Stp,
         Function::Jmp(_) => Function::Jmp(n),
         Function::Lop(_) => Function::Lop(n),
-        Function::Lps => Function::Lps,
-        Function::Lpe => Function::Lpe,
         Function::Pas(_) => Function::Pas(n),
         Function::Tenths(_) => Function::Tenths(n),
         Function::If(_) => Function::If(n),
         Function::Evn(_) => Function::Evn(n),
-        Function::Evr => Function::Evr,
-        Function::Bep => Function::Bep,
         Function::Out(_) => Function::Out(n),
+        _ => f,
     }
 }

@@ -5,7 +5,7 @@
 //   arriving    what one byte does: ends the line, is dropped, or is kept, raised to upper case
 //   lines       the line struct: 40 characters, how many are kept, and the over-long mark
 //   addresses   up to two leading digits
-//   spelling    whether a text is led by a name, or is a word
+//   spelling    the letters of a text
 //   names       the name that leads a text, and the argument behind it
 //   arguments   what stands behind RAT, DIR, CLD and the like
 //   functions   what stands behind FUN: a function's name and its datum

@@ -1,6 +1,6 @@
 // The line under way: its first 40 characters, how many they are, and whether there were more.
-ghost use Rattle.std.specs.Prelude.{◌≡◌, min};
-ghost use Rattle.line.specs.Lines.{empty_line, with_character, after_byte, all_stand, is_sound_line, address_in, command_in};
+ghost use Rattle.std.specs.Prelude.{◌≡◌};
+ghost use Rattle.line.specs.Lines.{empty_line, with_character, after_byte, line_text, all_stand, is_sound_line, address_in, command_in};
 ghost use Rattle.line.specs.Requests.{asked_in};
 
 use crate::addresses::{address_of, unaddressed};
@@ -9,6 +9,7 @@ use crate::commands::command_of;
 use crate::requests::asked_of;
 use words::{Asked, Command, Request};
 
+// A line holds its array and its length, as document 01 names it.
 #[derive(Clone, Copy)]
 pub struct Line {
     pub bytes: [u8; 40],
@@ -16,7 +17,7 @@ pub struct Line {
     pub overlong: bool,
 }
 
-// A line after one byte, and whether that byte ended it.
+// A line after one byte, and whether that byte ended it. The line is there either way, so that the two stay a pair.
 #[derive(Clone, Copy)]
 pub struct Arrived {
     pub line: Line,
@@ -59,14 +60,12 @@ impl Line {
     pub fn with_character(mut self, c: u8) -> Line
         ensures { result ≡ with_character self c }
     {
-        let len = self.len;
-        if len < 40 {
-            let at = len as usize;
-            self.bytes[at] = c;
-            self.len = len + 1;
-            return self;
+        if self.len < 40 {
+            self.bytes[self.len as usize] = c;
+            self.len += 1;
+        } else {
+            self.overlong = true;
         }
-        self.overlong = true;
         self
     }
 
@@ -74,22 +73,14 @@ impl Line {
     pub fn is_sound(self) -> bool
         ensures { result ≡ is_sound_line self }
     {
-        let len = self.len;
-        if (len <= 40) & (!self.overlong | (40 <= len)) {
-            let bytes = self.bytes;
-            let n = held(len);
-            return all_stand(&bytes[..n]);
-        }
-        false
+        self.len <= 40 && (!self.overlong || 40 <= self.len) && all_stand(self.text())
     }
 
     // The address that the line bears, 0 if none.
     pub fn address_in(self) -> u8
         ensures { result ≡ address_in self }
     {
-        let bytes = self.bytes;
-        let n = held(self.len);
-        address_of(&bytes[..n])
+        address_of(self.text())
     }
 
     // The command that the line asks for, whatever its address.
@@ -97,50 +88,37 @@ impl Line {
         ensures { result ≡ command_in self }
     {
         if self.overlong {
-            return Command::Malformed;
+            Command::Malformed
+        } else {
+            command_of(unaddressed(self.text()))
         }
-        let bytes = self.bytes;
-        let n = held(self.len);
-        command_of(unaddressed(&bytes[..n]))
     }
 
     // The address that the line bears, and what it asks for.
     pub fn asked_in(self) -> Asked
         ensures { result ≡ asked_in self }
     {
-        let bytes = self.bytes;
-        let n = held(self.len);
         if self.overlong {
-            return Asked {
-                address: address_of(&bytes[..n]),
+            Asked {
+                address: self.address_in(),
                 request: Request::Pump(Command::Malformed),
-            };
+            }
+        } else {
+            asked_of(self.text())
         }
-        asked_of(&bytes[..n])
     }
-}
 
-// How many of the 40 places a length speaks of.
-fn held(len: u8) -> usize
-    ensures { result ≡ min len 40 }
-{
-    if len < 40 {
-        return len as usize;
+    // The characters that are kept.
+    fn text(&self) -> &[u8]
+        ensures { result.now ≡ line_text self.now }
+    {
+        &self.bytes[..usize::from(self.len).min(40)]
     }
-    40
 }
 
 // Whether a line can hold every character of `s`.
 fn all_stand(s: &[u8]) -> bool
     ensures { result ≡ all_stand s.now }
 {
-    let mut i = 0;
-    while i < s.len() {
-        if can_stand(s[i]) {
-            i += 1;
-        } else {
-            return false;
-        }
-    }
-    true
+    s.iter().all(|c| can_stand(*c))
 }

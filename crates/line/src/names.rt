@@ -1,11 +1,11 @@
 // The name that leads a text, and its argument: the rest of that text.
-ghost use Rattle.std.specs.Prelude.{◌≡◌, length, take};
+ghost use Rattle.std.specs.Prelude.{◌≡◌};
 ghost use Rattle.line.specs.Names.{name_of, named_by, letters_of, argument_of};
 
-use crate::spelling::{leads, letter};
+use crate::spelling::letter;
 
-// The commands by their names. A text that none of them leads has the name Unknown.
-#[derive(Clone, Copy)]
+// The commands by their names.
+#[derive(Clone, Copy, PartialEq, Eq, Debug)]
 pub enum Name {
     Dia,
     Rat,
@@ -18,117 +18,74 @@ pub enum Name {
     Dis,
     Cld,
     Reset,
-    Unknown,
+}
+
+impl Name {
+    // Its letters, as they are sent.
+    fn letters(self) -> &'static [u8]
+        ensures { result.now ≡ letters_of self }
+    {
+        match self {
+            Name::Dia => b"DIA",
+            Name::Rat => b"RAT",
+            Name::Vol => b"VOL",
+            Name::Dir => b"DIR",
+            Name::Phn => b"PHN",
+            Name::Fun => b"FUN",
+            Name::Run => b"RUN",
+            Name::Stp => b"STP",
+            Name::Dis => b"DIS",
+            Name::Cld => b"CLD",
+            Name::Reset => b"*RESET",
+        }
+    }
 }
 
 // The name that leads `s`.
-pub fn name_of(s: &[u8]) -> Name
+pub fn name_of(s: &[u8]) -> Option<Name>
     ensures { result ≡ name_of s.now }
 {
-    let name = only_name(s);
-    let places = letters(name);
-    let n = width(name);
-    if leads(&places[..n], s) {
-        return name;
+    let name = only_name(s)?;
+    if s.starts_with(name.letters()) {
+        Some(name)
+    } else {
+        None
     }
-    Name::Unknown
 }
 
 // The only name that can lead `s`: up to three letters tell which.
-fn only_name(s: &[u8]) -> Name
-    ensures { name_of s.now ≡ named_by result (letters_of result) s.now }
+fn only_name(s: &[u8]) -> Option<Name>
+    ensures { name_of s.now ≡ named_by result s.now }
 {
     let second = letter(s, 1);
     let third = letter(s, 2);
-    match letter(s, 0) {
+    let name = match letter(s, 0) {
         b'D' => match third {
-            b'A' => return Name::Dia,
-            b'R' => return Name::Dir,
-            _ => return Name::Dis,
+            b'A' => Name::Dia,
+            b'R' => Name::Dir,
+            _ => Name::Dis,
         },
         b'R' => match second {
-            b'A' => return Name::Rat,
-            _ => return Name::Run,
+            b'A' => Name::Rat,
+            _ => Name::Run,
         },
-        b'V' => return Name::Vol,
-        b'P' => return Name::Phn,
-        b'F' => return Name::Fun,
-        b'S' => return Name::Stp,
-        b'C' => return Name::Cld,
-        b'*' => return Name::Reset,
-        _ => return Name::Unknown,
-    }
-}
-
-// The names as they are sent, in six places.
-const DIA: [u8; 6] = *b"DIA   ";
-
-const RAT: [u8; 6] = *b"RAT   ";
-
-const VOL: [u8; 6] = *b"VOL   ";
-
-const DIR: [u8; 6] = *b"DIR   ";
-
-const PHN: [u8; 6] = *b"PHN   ";
-
-const FUN: [u8; 6] = *b"FUN   ";
-
-const RUN: [u8; 6] = *b"RUN   ";
-
-const STP: [u8; 6] = *b"STP   ";
-
-const DIS: [u8; 6] = *b"DIS   ";
-
-const CLD: [u8; 6] = *b"CLD   ";
-
-const RESET: [u8; 6] = *b"*RESET";
-
-const NO_NAME: [u8; 6] = *b"      ";
-
-// The letters of a name, blanks behind them.
-fn letters(name: Name) -> [u8; 6]
-    ensures { take (length (letters_of name)) result ≡ letters_of name }
-{
-    match name {
-        Name::Dia => DIA,
-        Name::Rat => RAT,
-        Name::Vol => VOL,
-        Name::Dir => DIR,
-        Name::Phn => PHN,
-        Name::Fun => FUN,
-        Name::Run => RUN,
-        Name::Stp => STP,
-        Name::Dis => DIS,
-        Name::Cld => CLD,
-        Name::Reset => RESET,
-        Name::Unknown => NO_NAME,
-    }
-}
-
-// How many letters a name has.
-fn width(name: Name) -> usize
-    ensures { result ≡ length (letters_of name) }
-{
-    match name {
-        Name::Dia => 3,
-        Name::Rat => 3,
-        Name::Vol => 3,
-        Name::Dir => 3,
-        Name::Phn => 3,
-        Name::Fun => 3,
-        Name::Run => 3,
-        Name::Stp => 3,
-        Name::Dis => 3,
-        Name::Cld => 3,
-        Name::Reset => 6,
-        Name::Unknown => 0,
-    }
+        b'V' => Name::Vol,
+        b'P' => Name::Phn,
+        b'F' => Name::Fun,
+        b'S' => Name::Stp,
+        b'C' => Name::Cld,
+        b'*' => Name::Reset,
+        _ => return None,
+    };
+    Some(name)
 }
 
 // What stands behind the name that leads `s`.
 pub fn argument_of(s: &[u8]) -> &[u8]
     ensures { result.now ≡ argument_of s.now }
 {
-    let n = width(name_of(s));
-    &s[n..]
+    match name_of(s) {
+        Some(name) => &s[name.letters().len()..],
+        None => s,
+    }
 }

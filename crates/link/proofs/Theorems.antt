@@ -11,6 +11,7 @@
 --     good_safe, good_few   a good packet comes in Safe mode alone, and has at most forty data
 --     good_cleared          with its data read, the link is as SAF n left it; wrong_fresh: of a wrong one nothing is left
 -- Assumes nothing.
+use Rattle.std.specs.Prelude.{Option, None, Some}
 use Prim.Native.Nat.{ℕ, zero, suc, ◌+◌, ◌-◌, ◌*◌, ◌≤◌, ◌<◌}
 use mathlib.Core.Path.{◌≡◌, refl, sym, ap, ap₂, subst, ◌∙◌}
 use mathlib.Core.Logic.{◌↔◌}
@@ -22,8 +23,7 @@ use lib.ListN.{replicate}
 use borrow.Author.Tests.{eqb-true, eq-eqb}
 use Rattle.packet.specs.Packets.{stx}
 use Rattle.packet.specs.Receiver.{outside_receiver, after_byte}
-use Rattle.packet.specs.declared.receiver.Place.{Place}
-use Rattle.packet.specs.declared.receiver.Place.TheVariants.{Outside}
+use Rattle.packet.specs.declared.receiver.Part.{Part}
 use Rattle.packet.specs.declared.receiver.Outcome.{Outcome}
 use Rattle.packet.specs.declared.receiver.Outcome.TheVariants.{Nothing, Wrong, Good}
 use Rattle.packet.specs.declared.receiver.Arrived.{Arrived}
@@ -32,10 +32,7 @@ use Rattle.packet.proofs.Kept as receiver
 use Rattle.link.specs.Link.{receiver_of, safe_link, limited_to, cleared_link, is_safe, safe_in}
 use Rattle.link.specs.Link.{limit_of, limit_in, timer_left, left_in, ticks_left, fires}
 use Rattle.link.specs.Link.{timer_after, heard_by, link_after, link_tick, link_ticks, is_sound_link}
-use Rattle.link.specs.declared.Timer.{Timer}
 use Rattle.link.specs.declared.Safety.{Safety}
-use Rattle.link.specs.declared.Mode.{Mode}
-use Rattle.link.specs.declared.Mode.TheVariants.{Basic, Safe}
 use Rattle.link.specs.declared.Link.{Link}
 use Rattle.link.specs.declared.Taken.{Taken}
 use Rattle.link.proofs.Timers.{tick_left}
@@ -55,25 +52,25 @@ record Tick (l k : Link) : Type 0 where
   pub limit : limit_of k ≡ limit_of l
   pub left : ticks_left k ≡ ticks_left l - 1
 
-one_tick_in : (l : Link) (m : Mode) → l.mode ≡ m → Tick l (link_tick l)
+one_tick_in : (l : Link) (m : Option Safety) → l.safety ≡ m → Tick l (link_tick l)
 unfolding is_safe limit_of ticks_left
-one_tick_in l Basic e =
+one_tick_in l None e =
     let k = basic_tick l e in
     record {
       safe = ap is_safe k;
       limit = ap limit_of k;
-      left = ap ticks_left k ∙ ap left_in e ∙ sym (ap (λ (m : Mode). left_in m - 1) e);
+      left = ap ticks_left k ∙ ap left_in e ∙ sym (ap (λ (m : Option Safety). left_in m - 1) e);
     }
-one_tick_in l (Safe s) e =
+one_tick_in l (Some s) e =
     let k = safe_tick l s e in
     record {
       safe = ap is_safe k ∙ sym (ap safe_in e);
       limit = ap limit_of k ∙ sym (ap limit_in e);
-      left = ap ticks_left k ∙ tick_left s.timer ∙ sym (ap (λ (m : Mode). left_in m - 1) e);
+      left = ap ticks_left k ∙ tick_left s.timer ∙ sym (ap (λ (m : Option Safety). left_in m - 1) e);
     }
 
 one_tick_lem : (l : Link) → Tick l (link_tick l)
-one_tick_lem l = one_tick_in l l.mode refl
+one_tick_lem l = one_tick_in l l.safety refl
 
 pub ticks_safe : (n : ℕ) (l : Link) → is_safe (link_ticks n l) ≡ is_safe l
 unfolding link_ticks
@@ -136,21 +133,21 @@ timer_told s Nothing = refl
 timer_told s Wrong = refl
 timer_told s (Good n) = refl
 
-one_byte_in : (l : Link) (b : ℕ) (m : Mode) → l.mode ≡ m → Byte l (link_after l b)
+one_byte_in : (l : Link) (b : ℕ) (m : Option Safety) → l.safety ≡ m → Byte l (link_after l b)
 unfolding is_safe limit_of ticks_left
-one_byte_in l b Basic e = subst (Byte l) (sym (basic_after l b e)) (record { safe = refl; limit = refl; left = refl })
-one_byte_in l b (Safe s) e = subst (Byte l) (sym (safe_after l s b e))
+one_byte_in l b None e = subst (Byte l) (sym (basic_after l b e)) (record { safe = refl; limit = refl; left = refl })
+one_byte_in l b (Some s) e = subst (Byte l) (sym (safe_after l s b e))
     (record {
       safe = sym (ap safe_in e);
       limit = sym (ap limit_in e);
-      left = timer_told s a.outcome ∙ sym (ap (λ (m : Mode). left_after (left_in m) (limit_in m) a.outcome) e);
+      left = timer_told s a.outcome ∙ sym (ap (λ (m : Option Safety). left_after (left_in m) (limit_in m) a.outcome) e);
     })
   where
     a : Arrived
-    a = after_byte (receiver_of l.bytes s.place) b
+    a = after_byte (receiver_of l.bytes s.part) b
 
 one_byte : (l : Link) (b : ℕ) → Byte l (link_after l b)
-one_byte l b = one_byte_in l b l.mode refl
+one_byte l b = one_byte_in l b l.safety refl
 
 pub after_safe : (l : Link) (b : ℕ) → is_safe (link_after l b).link ≡ is_safe l
 after_safe l b = (one_byte l b).safe
@@ -179,10 +176,10 @@ alarm_after_good l b n k h =
 
 -- "bytes outside a packet are ignored until the next STX"
 pub outside_ignored :
-    (l : Link) (s : Safety) (b : ℕ) → l.mode ≡ Safe s → s.place ≡ Outside → (b ≡ stx → ⊥)
+    (l : Link) (s : Safety) (b : ℕ) → l.safety ≡ Some s → s.part ≡ None → (b ≡ stx → ⊥)
     → link_after l b ≡ record { link = l; outcome = Nothing }
 outside_ignored l s b e o n =
-    safe_after l s b e ∙ ap (heard_by s) (byte_ignored (receiver_of l.bytes s.place) b o n)
+    safe_after l s b e ∙ ap (heard_by s) (byte_ignored (receiver_of l.bytes s.part) b o n)
     ∙ ap (λ (k : Link). told k) (sym (as_safe l s e))
   where
     told : Link → Taken
@@ -190,8 +187,8 @@ outside_ignored l s b e o n =
 
 -- ---- a packet's end
 outcome_of_lem :
-    {o : Outcome} (l : Link) (s : Safety) (b : ℕ) → l.mode ≡ Safe s → (link_after l b).outcome ≡ o
-    → (after_byte (receiver_of l.bytes s.place) b).outcome ≡ o
+    {o : Outcome} (l : Link) (s : Safety) (b : ℕ) → l.safety ≡ Some s → (link_after l b).outcome ≡ o
+    → (after_byte (receiver_of l.bytes s.part) b).outcome ≡ o
 outcome_of_lem l s b e h = sym (ap (λ (a : Taken). a.outcome) (safe_after l s b e)) ∙ h
 
 no_good : {A : Type 0} {n : ℕ} → Nothing ≡ Good n → A
@@ -205,44 +202,44 @@ no_good {A} {n} e = subst (λ (o : Outcome). IsGood o) (sym e) tt
 -- Only in Safe mode is there a packet,
 pub good_safe : (l : Link) (b n : ℕ) → (link_after l b).outcome ≡ Good n → is_safe l ≡ true
 unfolding is_safe
-good_safe l b n h = go l.mode refl
+good_safe l b n h = go l.safety refl
   where
-    go : (m : Mode) → l.mode ≡ m → safe_in m ≡ true
-    go Basic e = no_good (sym (ap (λ (a : Taken). a.outcome) (basic_after l b e)) ∙ h)
-    go (Safe s) e = refl
+    go : (m : Option Safety) → l.safety ≡ m → safe_in m ≡ true
+    go None e = no_good (sym (ap (λ (a : Taken). a.outcome) (basic_after l b e)) ∙ h)
+    go (Some s) e = refl
 
 -- a good one has at most forty data,
 pub good_few : (l : Link) (b n : ℕ) → is_sound_link l ≡ true → (link_after l b).outcome ≡ Good n → n ≤ 40
-good_few l b n w h = go l.mode refl
+good_few l b n w h = go l.safety refl
   where
-    go : (m : Mode) → l.mode ≡ m → n ≤ 40
-    go Basic e = no_good (sym (ap (λ (a : Taken). a.outcome) (basic_after l b e)) ∙ h)
-    go (Safe s) e = receiver.good_few (receiver_of l.bytes s.place) b n (stands l s w e).received (outcome_of_lem l s b e h)
+    go : (m : Option Safety) → l.safety ≡ m → n ≤ 40
+    go None e = no_good (sym (ap (λ (a : Taken). a.outcome) (basic_after l b e)) ∙ h)
+    go (Some s) e = receiver.good_few (receiver_of l.bytes s.part) b n (stands l s w e).received (outcome_of_lem l s b e h)
 
 -- and once they are read the link is as `SAF n` left it, n the limit.
 pub good_cleared :
     (l : Link) (b n : ℕ) → is_sound_link l ≡ true → (link_after l b).outcome ≡ Good n
     → cleared_link (link_after l b).link ≡ limited_to (limit_of l)
 unfolding limit_of
-good_cleared l b n w h = go l.mode refl
+good_cleared l b n w h = go l.safety refl
   where
-    go : (m : Mode) → l.mode ≡ m → cleared_link (link_after l b).link ≡ limited_to (limit_in m)
-    go Basic e = no_good (sym (ap (λ (a : Taken). a.outcome) (basic_after l b e)) ∙ h)
-    go (Safe s) e =
-        let r = receiver_of l.bytes s.place in
+    go : (m : Option Safety) → l.safety ≡ m → cleared_link (link_after l b).link ≡ limited_to (limit_in m)
+    go None e = no_good (sym (ap (λ (a : Taken). a.outcome) (basic_after l b e)) ∙ h)
+    go (Some s) e =
+        let r = receiver_of l.bytes s.part in
         let k : (after_byte r b).outcome ≡ Good n = outcome_of_lem l s b e h in
         let z : s.limit ≡ 0 → ⊥ = λ z. omega (arith, (stands l s w e).limited) in
         ap (λ (a : Taken). cleared_link a.link) (safe_after l s b e)
-        ∙ ap₂ (λ (t : Timer) (p : Place). safe_link s.limit t (receiver_of (replicate 40 0) p)) (ap (timer_after s) k)
+        ∙ ap₂ (λ (t : Option ℕ) (p : Option Part). safe_link s.limit t (receiver_of (replicate 40 0) p)) (ap (timer_after s) k)
         (receiver.good_outside r b n (stands l s w e).received k)
         ∙ sym (some_limit s.limit z)
 
 -- Of a wrong one nothing is left.
 pub wrong_fresh :
-    (l : Link) (s : Safety) (b : ℕ) → l.mode ≡ Safe s → is_sound_link l ≡ true → (link_after l b).outcome ≡ Wrong
+    (l : Link) (s : Safety) (b : ℕ) → l.safety ≡ Some s → is_sound_link l ≡ true → (link_after l b).outcome ≡ Wrong
     → (link_after l b).link ≡ safe_link s.limit s.timer outside_receiver
 wrong_fresh l s b e w h =
-    let r = receiver_of l.bytes s.place in
+    let r = receiver_of l.bytes s.part in
     let k : (after_byte r b).outcome ≡ Wrong = outcome_of_lem l s b e h in
     ap (λ (a : Taken). a.link) (safe_after l s b e)
     ∙ ap₂ (safe_link s.limit) (ap (timer_after s) k) (receiver.wrong_fresh r b (stands l s w e).received k)

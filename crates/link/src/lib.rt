@@ -2,41 +2,32 @@
 // The crate knows neither commands nor the pump: that SAF and *RESET choose the mode, that a good packet's data are a command, that
 // the end of the timer is alarm T and that `?COM` is sent is said above; what a packet is, below.
 //
-// In Basic mode there is neither a timer nor a part packet, by type. The array stands beside the mode, since no enum holds an array.
+// In Basic mode there is neither a timer nor a part packet, by type. The array stands beside them, so that a good packet's data are read
+// from it with no question of the mode.
 #![tactic(auto)]
 
 ghost use Rattle.std.specs.Prelude.{◌≡◌, true};
-ghost use Rattle.link.specs.Link.{basic_link, limited_to, safe_link, cleared_link, is_safe, limit_of, ticks_left};
-ghost use Rattle.link.specs.Link.{timer_left, timer_after, heard_by, link_after, timer_ticks, link_ticks, is_sound_timer, is_sound_link};
+ghost use Rattle.link.specs.Link.{receiver_of, basic_link, whole_limit, limited_to, safe_link, cleared_link, is_safe, limit_of, ticks_left};
+ghost use Rattle.link.specs.Link.{timer_after, heard_by, link_after, timer_ticks, link_ticks, is_sound_timer, is_sound_link};
 
-use packet::{Arrived, Outcome, Place, Receiver};
+use packet::{Arrived, Outcome, Part, Receiver};
 
-// The time limit's timer: it waits for the next good packet, or has so many ticks left until alarm T, the alarm's tick among them.
-#[derive(Clone, Copy)]
-pub enum Timer {
-    Waits,
-    Left(u32),
-}
-
-// Safe mode: the time limit in seconds, its timer, and where in a packet the bytes stand.
+// Safe mode: the time limit in seconds, its timer, and the part packet.
 #[derive(Clone, Copy)]
 pub struct Safety {
     pub limit: u8,
-    pub timer: Timer,
-    pub place: Place,
-}
-
-#[derive(Clone, Copy)]
-pub enum Mode {
-    Basic,
-    Safe(Safety),
+    // so many ticks are left until alarm T, the alarm's tick among them; with none the timer waits for the next good packet
+    pub timer: Option<u32>,
+    // none: outside a packet
+    pub part: Option<Part>,
 }
 
 // The bytes are the data of the packet under way, and zeros behind them.
 #[derive(Clone, Copy)]
 pub struct Link {
     pub bytes: [u8; 40],
-    pub mode: Mode,
+    // none: Basic mode
+    pub safety: Option<Safety>,
 }
 
 // A link after one byte, and what that byte told.
@@ -55,7 +46,7 @@ impl Link {
     {
         Link {
             bytes: [0; 40],
-            mode: Mode::Basic,
+            safety: None,
         }
     }
 
@@ -66,28 +57,17 @@ impl Link {
         if n == 0 {
             return Link::basic();
         }
-        joined(
-            n,
-            Timer::Left(TICKS_A_SECOND * n as u32),
-            Receiver::outside(),
-        )
+        joined(n, whole_limit(n), Receiver::outside())
     }
 
     // Whether calls from Basic mode can have brought the link here, as far as its parts go.
     pub fn is_sound(self) -> bool
         ensures { result ≡ is_sound_link self }
     {
-        let mode = self.mode;
-        match mode {
-            Mode::Basic => true,
-            Mode::Safe(safety) => {
-                let bytes = self.bytes;
-                let place = safety.place;
-                let receiver = Receiver {
-                    bytes: bytes,
-                    place: place,
-                };
-                (1 <= safety.limit) & safety.is_timer_sound() & receiver.sound()
+        match self.safety {
+            None => true,
+            Some(safety) => {
+                (1 <= safety.limit) & safety.is_timer_sound() & safety.receiver(self.bytes).sound()
             }
         }
     }
@@ -95,33 +75,21 @@ impl Link {
     pub fn is_safe(self) -> bool
         ensures { result ≡ is_safe self }
     {
-        let mode = self.mode;
-        match mode {
-            Mode::Basic => false,
-            Mode::Safe(_) => true,
-        }
+        self.safety.is_some()
     }
 
     // What the query SAF prints: 0 in Basic mode.
     pub fn limit(self) -> u8
         ensures { result ≡ limit_of self }
     {
-        let mode = self.mode;
-        match mode {
-            Mode::Basic => 0,
-            Mode::Safe(safety) => safety.limit,
-        }
+        self.safety.map_or(0, |safety| safety.limit)
     }
 
     // How many ticks there are until alarm T, that one among them; 0 where no timer runs.
     pub fn left(self) -> u32
         ensures { result ≡ ticks_left self }
     {
-        let mode = self.mode;
-        match mode {
-            Mode::Basic => 0,
-            Mode::Safe(safety) => safety.left(),
-        }
+        self.safety.map_or(0, |safety| safety.timer.unwrap_or(0))
     }
 
     // One byte more. Of a good packet the data stay, for the caller to read.
@@ -129,21 +97,12 @@ impl Link {
         requires { is_sound_link self ≡ true }
         ensures { result ≡ link_after self b }
     {
-        let mode = self.mode;
-        match mode {
-            Mode::Basic => Taken {
+        match self.safety {
+            None => Taken {
                 link: self,
                 outcome: Outcome::Nothing,
             },
-            Mode::Safe(safety) => {
-                let bytes = self.bytes;
-                let place = safety.place;
-                let receiver = Receiver {
-                    bytes: bytes,
-                    place: place,
-                };
-                safety.heard(receiver.after(b))
-            }
+            Some(safety) => safety.heard(safety.receiver(self.bytes).after(b)),
         }
     }
 
@@ -151,10 +110,9 @@ impl Link {
     pub fn cleared(self) -> Link
         ensures { result ≡ cleared_link self }
     {
-        let mode = self.mode;
         Link {
             bytes: [0; 40],
-            mode: mode,
+            safety: self.safety,
         }
     }
 
@@ -163,40 +121,33 @@ impl Link {
         requires { is_sound_link self ≡ true }
         ensures { result ≡ link_ticks n self }
     {
-        let mode = self.mode;
-        match mode {
-            Mode::Basic => self,
-            Mode::Safe(safety) => {
-                let bytes = self.bytes;
-                let place = safety.place;
-                let receiver = Receiver {
-                    bytes: bytes,
-                    place: place,
-                };
-                joined(safety.limit, safety.timer_ticked(n), receiver.quiet(n))
+        match self.safety {
+            None => self,
+            Some(safety) => {
+                let receiver = safety.receiver(self.bytes).quiet(n);
+                joined(safety.limit, safety.timer_ticked(n), receiver)
             }
         }
     }
 }
 
 impl Safety {
-    fn is_timer_sound(self) -> bool
-        ensures { result ≡ is_sound_timer self.limit self.timer }
+    // The receiver that the bytes beside it and the part packet are.
+    fn receiver(self, bytes: [u8; 40]) -> Receiver
+        ensures { result ≡ receiver_of bytes self.part }
     {
-        let timer = self.timer;
-        match timer {
-            Timer::Waits => true,
-            Timer::Left(t) => (1 <= t) & (t <= TICKS_A_SECOND * self.limit as u32),
+        Receiver {
+            bytes,
+            part: self.part,
         }
     }
 
-    fn left(self) -> u32
-        ensures { result ≡ timer_left self.timer }
+    fn is_timer_sound(self) -> bool
+        ensures { result ≡ is_sound_timer self.limit self.timer }
     {
-        let timer = self.timer;
-        match timer {
-            Timer::Waits => 0,
-            Timer::Left(t) => t,
+        match self.timer {
+            None => true,
+            Some(t) => (1 <= t) & (t <= TICKS_A_SECOND * self.limit as u32),
         }
     }
 
@@ -204,57 +155,53 @@ impl Safety {
     fn heard(self, arrived: Arrived) -> Taken
         ensures { result ≡ heard_by self arrived }
     {
-        let receiver = arrived.receiver;
-        let outcome = arrived.outcome;
-        let timer = self.timer_after(outcome);
+        let timer = self.timer_after(arrived.outcome);
         Taken {
-            link: joined(self.limit, timer, receiver),
-            outcome: outcome,
+            link: joined(self.limit, timer, arrived.receiver),
+            outcome: arrived.outcome,
         }
     }
 
     // A good packet restarts the timer, to whichever address; `?COM` does not.
-    fn timer_after(self, outcome: Outcome) -> Timer
+    fn timer_after(self, outcome: Outcome) -> Option<u32>
         ensures { result ≡ timer_after self outcome }
     {
         match outcome {
             Outcome::Nothing => self.timer,
             Outcome::Wrong => self.timer,
-            Outcome::Good(_) => Timer::Left(TICKS_A_SECOND * self.limit as u32),
+            Outcome::Good(_) => whole_limit(self.limit),
         }
     }
 
-    // The timer after so many ticks: past its end it waits.
-    fn timer_ticked(self, n: u32) -> Timer
+    // The timer after so many ticks: from its end on it waits.
+    fn timer_ticked(self, n: u32) -> Option<u32>
         requires { is_sound_timer self.limit self.timer ≡ true }
         ensures { result ≡ timer_ticks n self.timer }
     {
-        let timer = self.timer;
-        match timer {
-            Timer::Waits => Timer::Waits,
-            Timer::Left(t) => {
-                if n < t {
-                    return Timer::Left(t - n);
-                }
-                Timer::Waits
-            }
-        }
+        let t = self.timer?;
+        if n < t { Some(t - n) } else { None }
     }
 }
 
+// The timer with all the ticks of so many seconds.
+fn whole_limit(n: u8) -> Option<u32>
+    ensures { result ≡ whole_limit n }
+{
+    Some(TICKS_A_SECOND * n as u32)
+}
+
 // A link in Safe mode.
-fn joined(limit: u8, timer: Timer, receiver: Receiver) -> Link
+fn joined(limit: u8, timer: Option<u32>, receiver: Receiver) -> Link
     ensures { result ≡ safe_link limit timer receiver }
 {
     let bytes = receiver.bytes;
-    let place = receiver.place;
     let safety = Safety {
-        limit: limit,
-        timer: timer,
-        place: place,
+        limit,
+        timer,
+        part: receiver.part,
     };
     Link {
-        bytes: bytes,
-        mode: Mode::Safe(safety),
+        bytes,
+        safety: Some(safety),
     }
 }

@@ -1,6 +1,6 @@
 -- LPS, LOP and LPE keep sound loops sound, and the phase that follows is one of the program's or the one behind its last.
 -- Assumes nothing.
-use Rattle.std.specs.Prelude.{if◌then◌else◌}
+use Rattle.std.specs.Prelude.{if◌then◌else◌, Option, Some, None, IfSome}
 use Prim.Native.Nat.{ℕ, ◌+◌, ◌≤◌, ◌<◌}
 use mathlib.Core.Path.{◌≡◌, refl, sym, ap, subst, ◌∙◌}
 use mathlib.Core.Bool.{Bool, true, false, ◌&&◌, not}
@@ -9,13 +9,12 @@ use native.Mathlib.Omega.{arith}
 use lib.Dec.{leb, eqb}
 use lib.ListN.{length, length-append}
 use borrow.Author.Tests.{leb-false, le-leb, eqb-true, eqb-false, eq-eqb, ne_eqb}
-use Rattle.base.proofs.Choices.{and_left, and_right, false_true}
+use Rattle.base.proofs.Choices.{and_left, and_right}
 use Rattle.base.proofs.Each.{and_both}
 use Rattle.loops.specs.Loops.{opened, in_slots, before, lps, newest, older, lop, lpe, Turning}
 use Rattle.loops.specs.Loops.{is_sound_loop, all_sound, none_begun_by, all_differ, is_sound_loops}
 use Rattle.loops.specs.declared.Loop.{Loop}
 use Rattle.loops.specs.declared.Loops.{Loops}
-use Rattle.loops.specs.declared.Began.{Began}
 use Rattle.loops.specs.declared.Turn.{Turn}
 use Rattle.loops.proofs.Places.{opened_holding}
 use Rattle.loops.proofs.Soundness.{SoundList, Bounded, bounded, bounded_sound, sound_list}
@@ -126,8 +125,7 @@ pub lps_sound :
     (phases phase : ℕ) (l : Loops)
     → is_sound_loops phases l ≡ true
     → phase ≤ phases
-    → (lps l phase).full ≡ false
-    → is_sound_loops phases (lps l phase).loops ≡ true
+    → IfSome (lps l phase) (λ more. is_sound_loops phases more ≡ true)
 unfolding lps
 lps_sound phases phase l h k = go (leb 3 (length (before phase (opened l)))) refl
   where
@@ -137,17 +135,10 @@ lps_sound phases phase l h k = go (leb 3 (length (before phase (opened l)))) ref
     go :
         (t : Bool)
         → leb 3 (length (before phase (opened l))) ≡ t
-        → (if◌then◌else◌ {A = Began} t
-        (record { loops = l; full = true })
-        (record { loops = in_slots (before phase (opened l) ++ begun ∷ []); full = false })).full
-        ≡ false
-        → is_sound_loops phases
-        (if◌then◌else◌ {A = Began} t
-        (record { loops = l; full = true })
-        (record { loops = in_slots (before phase (opened l) ++ begun ∷ []); full = false })).loops
-        ≡ true
-    go true e f = false_true (sym f)
-    go false e f =
+        → IfSome (if◌then◌else◌ {A = Option Loops} t None (Some (in_slots (before phase (opened l) ++ begun ∷ []))))
+        (λ more. is_sound_loops phases more ≡ true)
+    go true e = tt
+    go false e =
         let s = sound_list phases l h in
         let p = before_part phases phase (opened l) s.sound s.differ in
         snoc_sound phases (before phase (opened l)) begun (leb-false _ _ e) p.sound p.differ

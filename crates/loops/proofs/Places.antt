@@ -1,7 +1,7 @@
 -- The three places and the list of open loops that they hold: what the code reads off the places is what the rules say of the list.
 -- Assumes nothing.
-use Rattle.std.specs.Prelude.{if◌then◌else◌}
-use Prim.Native.Nat.{ℕ, zero, suc, ◌+◌, ◌≤◌, ◌<◌}
+use Rattle.std.specs.Prelude.{if◌then◌else◌, min, ◌-◌}
+use Prim.Native.Nat.{ℕ, zero, suc, ◌≤◌, ◌<◌}
 use mathlib.Core.Path.{◌≡◌, refl, sym, ap, ◌∙◌}
 use mathlib.Core.Bool.{Bool, true, false, ◌&&◌, ◌||◌, not}
 use mathlib.Core.List.{List, [], ◌∷◌, ◌++◌}
@@ -9,7 +9,7 @@ use native.Mathlib.Omega.{arith}
 use lib.Dec.{ltb, leb, eqb}
 use lib.ListN.{length, take, replicate, get_or, length-take}
 use lib.Seq.{take-take, take-append_seam}
-use borrow.Author.Tests.{lt-ltb, le-ltb, lt-leb}
+use borrow.Author.Tests.{lt-ltb, lt-leb}
 use Rattle.base.specs.All.{all}
 use Rattle.loops.specs.Loops.{no_loop, none, opened, in_slots, before, newest, older}
 use Rattle.loops.specs.Loops.{is_sound_loop, all_sound, none_begun_by, all_differ, is_sound_loops}
@@ -59,27 +59,21 @@ by_three P f (x ∷ y ∷ z ∷ []) h = f x y z
 by_three P f (x ∷ y ∷ z ∷ w ∷ ls) h = absurd (omega arith)
 
 pub older_at :
-    (n : ℕ) (ls : List Loop) → length ls ≡ 3 → length (older (take n ls)) ≡ (if leb n 1 then 0 else if leb n 2 then 1 else 2)
+    (n : ℕ) (ls : List Loop) → length ls ≡ 3 → length (older (take n ls)) ≡ min (n - 1) 2
 unfolding older
-older_at n = by_three (λ ls. length (older (take n ls)) ≡ (if leb n 1 then 0 else if leb n 2 then 1 else 2)) (go n)
+older_at n = by_three (λ ls. length (older (take n ls)) ≡ min (n - 1) 2) (go n)
   where
     go :
         (n : ℕ) (x y z : Loop)
-        → length (older (take n (x ∷ y ∷ z ∷ []))) ≡ (if leb n 1 then 0 else if leb n 2 then 1 else 2)
+        → length (older (take n (x ∷ y ∷ z ∷ []))) ≡ min (n - 1) 2
     go zero x y z = refl
     go (suc zero) x y z = refl
     go (suc (suc zero)) x y z = refl
     go (suc (suc (suc zero))) x y z = refl
-    go (suc (suc (suc (suc n)))) x y z =
-        simp (lt-leb (suc (suc (suc (suc n)))) 1 (omega arith), lt-leb (suc (suc (suc (suc n)))) 2 (omega arith))
+    go (suc (suc (suc (suc n)))) x y z = omega arith
 
 pub older_small : (n : ℕ) (ls : List Loop) → length ls ≡ 3 → length (older (take n ls)) < 3
-older_small n ls h = rw (older_at n ls h) (go (leb n 1) (leb n 2))
-  where
-    go : (t u : Bool) → (if t then 0 else if u then 1 else 2) < 3
-    go true u = omega arith
-    go false true = omega arith
-    go false false = omega arith
+older_small n ls h = rw (older_at n ls h) (omega arith)
 
 pub newest_at :
     (n : ℕ) (ls : List Loop) → length ls ≡ 3 → (n ≡ 0 → ⊥) → get_or ls (length (older (take n ls))) no_loop ≡ newest (take n ls)
@@ -105,7 +99,7 @@ placed phase n ls =
     else
     if ltb 1 n && eqb (get_or ls 1 no_loop).begun phase
     then 1
-    else if ltb 2 n && eqb (get_or ls 2 no_loop).begun phase then 2 else if ltb n 3 then n else 3
+    else if ltb 2 n && eqb (get_or ls 2 no_loop).begun phase then 2 else min n 3
 
 pub place_at : (phase n : ℕ) (ls : List Loop) → length ls ≡ 3 → length (before phase (take n ls)) ≡ placed phase n ls
 unfolding before
@@ -137,52 +131,9 @@ place_at phase n = by_three (λ ls. length (before phase (take n ls)) ≡ placed
     go (suc (suc (suc zero))) x y z = three x y z (eqb x.begun phase) (eqb y.begun phase) (eqb z.begun phase)
     go (suc (suc (suc (suc n)))) x y z =
         let m = suc (suc (suc (suc n))) in
-        simp (lt-ltb 0 m (omega arith), lt-ltb 1 m (omega arith), lt-ltb 2 m (omega arith), le-ltb m 3 (omega arith))
+        let most : min m 3 ≡ 3 = omega arith in
+        simp (lt-ltb 0 m (omega arith), lt-ltb 1 m (omega arith), lt-ltb 2 m (omega arith), most)
         (three x y z (eqb x.begun phase) (eqb y.begun phase) (eqb z.begun phase))
-
--- ---- the places written anew
-abbrev closed : ℕ → List Loop → Loops
-closed keep ls =
-    record {
-      slots = (if ltb 0 keep then get_or ls 0 no_loop else no_loop) ∷ (if ltb 1 keep then get_or ls 1 no_loop else no_loop) ∷ no_loop ∷ [];
-      count = keep;
-    }
-
-pub closed_holds : (keep : ℕ) (ls : List Loop) → length ls ≡ 3 → keep < 3 → closed keep ls ≡ in_slots (take keep ls)
-closed_holds keep = by_three (λ ls. keep < 3 → closed keep ls ≡ in_slots (take keep ls)) (go keep)
-  where
-    go : (keep : ℕ) (x y z : Loop) → keep < 3 → closed keep (x ∷ y ∷ z ∷ []) ≡ in_slots (take keep (x ∷ y ∷ z ∷ []))
-    go zero x y z h = refl
-    go (suc zero) x y z h = refl
-    go (suc (suc zero)) x y z h = refl
-    go (suc (suc (suc k))) x y z h = absurd (omega arith)
-
-abbrev behind : ℕ → Loop → List Loop → Loops
-behind keep new ls =
-    record {
-      slots =
-          (if ltb 0 keep then get_or ls 0 no_loop else new)
-          ∷ (if ltb 1 keep then get_or ls 1 no_loop else if eqb keep 1 then new else no_loop)
-          ∷ (if eqb keep 2 then new else no_loop)
-          ∷ [];
-      count = keep + 1;
-    }
-
-pub behind_holds :
-    (keep : ℕ) (new : Loop) (ls : List Loop)
-    → length ls ≡ 3
-    → keep < 3
-    → behind keep new ls ≡ in_slots (take keep ls ++ new ∷ [])
-behind_holds keep new = by_three (λ ls. keep < 3 → behind keep new ls ≡ in_slots (take keep ls ++ new ∷ [])) (go keep)
-  where
-    go :
-        (keep : ℕ) (x y z : Loop)
-        → keep < 3
-        → behind keep new (x ∷ y ∷ z ∷ []) ≡ in_slots (take keep (x ∷ y ∷ z ∷ []) ++ new ∷ [])
-    go zero x y z h = refl
-    go (suc zero) x y z h = refl
-    go (suc (suc zero)) x y z h = refl
-    go (suc (suc (suc k))) x y z h = absurd (omega arith)
 
 -- ---- the tests of soundness, place by place
 abbrev place_tests : ℕ → ℕ → List Loop → List Bool

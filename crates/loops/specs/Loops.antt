@@ -1,9 +1,9 @@
 -- The open loops, as a list with the oldest first: LPS, LOP and LPE, each whole, and when the loops are sound.
 -- (01, Ticks and phases, LPS, LOP, LPE; Calls)
-use Rattle.std.specs.Prelude.{ℕ, ◌+◌, ◌≤◌, Bool, true, false, ◌&&◌, not, List, [], ◌∷◌, ◌++◌, leb, eqb, length, take, replicate, if◌then◌else◌}
+use Rattle.std.specs.Prelude.{ℕ, ◌+◌, ◌≤◌, Bool, true, ◌&&◌, not, List, [], ◌∷◌, ◌++◌, leb, eqb, length, take, replicate, if◌then◌else◌}
+use Rattle.std.specs.Prelude.{Option, Some, None}
 use Rattle.loops.specs.declared.Loop.{Loop}
 use Rattle.loops.specs.declared.Loops.{Loops}
-use Rattle.loops.specs.declared.Began.{Began}
 use Rattle.loops.specs.declared.Turn.{Turn}
 
 -- a loop counted as begun by phase 0, with no pass; zeros like these fill the places where no loop is open
@@ -28,11 +28,11 @@ before phase [] = []
 before phase (x ∷ ls) = if eqb x.begun phase then [] else x ∷ before phase ls
 
 -- that loop and those opened after it close; with three still open the phase can't begin one, else one is opened
-unfoldable pub lps : Loops → ℕ → Began
+unfoldable pub lps : Loops → ℕ → Option Loops
 lps l phase =
     if leb 3 (length (before phase (opened l)))
-    then record { loops = l; full = true }
-    else record { loops = in_slots (before phase (opened l) ++ record { begun = phase; passes = 0 } ∷ []); full = false }
+    then None
+    else Some (in_slots (before phase (opened l) ++ record { begun = phase; passes = 0 } ∷ []))
 
 -- ---- LOP and LPE
 -- the newest loop, or if none is open, one counted as begun by phase 0

@@ -2,7 +2,7 @@
 // phases. The crate knows a phase by its number alone.
 #![tactic(auto)]
 
-ghost use Rattle.std.specs.Prelude.{◌≡◌, [], ◌∷◌, ◌++◌, ◌<◌, length, take, if◌then◌else◌};
+ghost use Rattle.std.specs.Prelude.{◌≡◌, [], ◌∷◌, ◌++◌, ◌<◌, length, take};
 ghost use Rattle.loops.specs.Loops.{none, lps, Turning, lop, lpe, is_sound_loops, opened, in_slots, before, newest, older};
 
 #[derive(Clone, Copy)]
@@ -17,18 +17,12 @@ const NO_LOOP: Loop = Loop {
     passes: 0,
 };
 
-// The newest open loop is the one at `count - 1`; LPS, LOP and LPE leave zeros in the places behind it.
+// Three places and how many are open, as document 01 names it. The newest open loop is the one at `count - 1`; LPS, LOP and LPE leave zeros
+// in the places behind it.
 #[derive(Clone, Copy)]
 pub struct Loops {
     pub slots: [Loop; 3],
     pub count: u8,
-}
-
-// What LPS makes of the loops; with three still open they are full, and stay as they are.
-#[derive(Clone, Copy)]
-pub struct Began {
-    pub loops: Loops,
-    pub full: bool,
 }
 
 // What LOP and LPE make of the loops, and the phase that follows.
@@ -48,25 +42,19 @@ impl Loops {
         }
     }
 
-    // LPS at this phase.
-    pub fn lps(self, phase: u8) -> Began
+    // LPS at this phase: with three still open there is no place for one more.
+    pub fn lps(self, phase: u8) -> Option<Loops>
         ensures { result ≡ lps self phase }
     {
         let keep = self.place(phase);
         if 3 <= keep {
-            return Began {
-                loops: self,
-                full: true,
-            };
+            return None;
         }
         let begun = Loop {
             begun: phase,
             passes: 0,
         };
-        Began {
-            loops: self.opened_at(keep, begun),
-            full: false,
-        }
+        Some(self.opened_at(keep, begun))
     }
 
     // LOP n at the phase `current`: one more pass. The passes are compared in u16, since nothing bounds those of a loop that is not sound.
@@ -76,21 +64,19 @@ impl Loops {
     {
         let newest = self.newest();
         let older = self.older();
-        let begun = newest.begun;
-        let passes = newest.passes;
-        if n as u16 <= passes as u16 + 1 {
+        if n as u16 <= newest.passes as u16 + 1 {
             return Turn {
                 loops: self.closed_to(older),
                 next: current + 1,
             };
         }
         let again = Loop {
-            begun: begun,
-            passes: passes + 1,
+            passes: newest.passes + 1,
+            ..newest
         };
         Turn {
             loops: self.opened_at(older, again),
-            next: begun + 1,
+            next: newest.begun + 1,
         }
     }
 
@@ -101,10 +87,9 @@ impl Loops {
     {
         let newest = self.newest();
         let older = self.older();
-        let next = newest.begun + 1;
         Turn {
             loops: self.opened_at(older, newest),
-            next: next,
+            next: newest.begun + 1,
         }
     }
 
@@ -145,10 +130,7 @@ impl Loops {
         if (2 < count) & (c.begun == phase) {
             return 2;
         }
-        if count < 3 {
-            return count;
-        }
-        3
+        count.min(3)
     }
 
     // The newest loop, or one counted as begun by phase 0.
@@ -166,14 +148,7 @@ impl Loops {
     fn older(self) -> u8
         ensures { result ≡ length (older (opened self)) }
     {
-        let count = self.count;
-        if count <= 1 {
-            return 0;
-        }
-        if count <= 2 {
-            return 1;
-        }
-        2
+        self.count.saturating_sub(1).min(2)
     }
 
     // The first `keep` loops alone.
@@ -181,11 +156,14 @@ impl Loops {
         requires { keep < 3 }
         ensures { result ≡ in_slots (take keep self.slots) }
     {
-        let none = NO_LOOP;
         let a = self.slots[0];
         let b = self.slots[1];
         Loops {
-            slots: [chosen(0 < keep, a, none), chosen(1 < keep, b, none), none],
+            slots: [
+                if 0 < keep { a } else { NO_LOOP },
+                if 1 < keep { b } else { NO_LOOP },
+                NO_LOOP,
+            ],
             count: keep,
         }
     }
@@ -195,25 +173,16 @@ impl Loops {
         requires { keep < 3 }
         ensures { result ≡ in_slots (take keep self.slots ++ newest ∷ []) }
     {
-        let none = NO_LOOP;
         let a = self.slots[0];
         let b = self.slots[1];
+        let behind = if keep == 1 { newest } else { NO_LOOP };
         Loops {
             slots: [
-                chosen(0 < keep, a, newest),
-                chosen(1 < keep, b, chosen(keep == 1, newest, none)),
-                chosen(keep == 2, newest, none),
+                if 0 < keep { a } else { newest },
+                if 1 < keep { b } else { behind },
+                if keep == 2 { newest } else { NO_LOOP },
             ],
             count: keep + 1,
         }
     }
-}
-
-fn chosen(first: bool, a: Loop, b: Loop) -> Loop
-    ensures { result ≡ (if first then a else b) }
-{
-    if first {
-        return a;
-    }
-    b
 }

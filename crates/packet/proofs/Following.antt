@@ -1,6 +1,6 @@
 -- The receiver follows the stream: one byte more, by what it holds, tells and leads where the stream's meaning says.
 -- Assumes nothing.
-use Rattle.std.specs.Prelude.{if◌then◌else◌}
+use Rattle.std.specs.Prelude.{if◌then◌else◌, Option, None, Some}
 use Prim.Native.Nat.{ℕ, ◌+◌, ◌-◌, ◌≤◌, ◌<◌}
 use mathlib.Core.Path.{◌≡◌, refl, sym, ap, ap₂, subst, ◌∙◌}
 use mathlib.Core.Bool.{Bool, true, false}
@@ -19,8 +19,7 @@ use Rattle.packet.specs.Receiver.{begun_by, taken_by, after_in, after_byte, soun
 use Rattle.packet.specs.Follows.{came, standing_in, standing, heard, answers, after_all, Sound}
 use Rattle.packet.specs.declared.receiver.Stage.{Stage}
 use Rattle.packet.specs.declared.receiver.Stage.TheVariants.{Length, Data, High, Low, End}
-use Rattle.packet.specs.declared.receiver.Place.{Place}
-use Rattle.packet.specs.declared.receiver.Place.TheVariants.{Outside, Inside}
+use Rattle.packet.specs.declared.receiver.Part.{Part}
 use Rattle.packet.specs.declared.receiver.Receiver.{Receiver}
 use Rattle.packet.specs.declared.receiver.Outcome.TheVariants.{Nothing, Good}
 use Rattle.packet.specs.declared.receiver.Arrived.{Arrived}
@@ -137,7 +136,7 @@ module _ (l : List ℕ) (full : length l ≡ 40) (n : ℕ) (h : n ≤ 40) where
       (go (eqb b etx) refl)
     where
       go : (t : Bool) → eqb b etx ≡ t
-          → Fits (if t then record { receiver = record { bytes = l; place = Outside }; outcome = Good n } else wrong_now)
+          → Fits (if t then record { receiver = record { bytes = l; part = None }; outcome = Good n } else wrong_now)
           ((n + 4) ∷ (take n l ++ (check_bytes (take n l) ++ (b ∷ []))))
       go true e =
           let j : judged ((n + 4) ∷ (take n l ++ (check_bytes (take n l) ++ (b ∷ [])))) ≡ good (take n l) =
@@ -156,7 +155,7 @@ taken_fits l (High k) b n t = high_fits l n k (leb-true k 40 t) b
 taken_fits l (Low k high) b n t = low_fits l n k (leb-true k 40 t) high b
 taken_fits l (End k) b n t = end_fits l n k (leb-true k 40 t) b
 
-begun_right : (r : Receiver) (b : ℕ) → Sound r → r.place ≡ Outside → Right (begun_by r b) (told outside b) (next outside b)
+begun_right : (r : Receiver) (b : ℕ) → Sound r → r.part ≡ None → Right (begun_by r b) (told outside b) (next outside b)
 unfolding begun_by told next sound_receiver
 begun_right r b s e = go (eqb b stx)
   where
@@ -166,16 +165,16 @@ begun_right r b s e = go (eqb b stx)
     go true = record { tells = refl; leads = refl; sound = record { places = zeros; tested = refl } }
     go false = record { tells = refl; leads = ap (standing_in r.bytes) e; sound = s }
 
-in_place : (r : Receiver) (b : ℕ) (p : Place) → Sound r → r.place ≡ p
+in_place : (r : Receiver) (b : ℕ) (p : Option Part) → Sound r → r.part ≡ p
     → Right (after_in r p b) (told (standing_in r.bytes p) b) (next (standing_in r.bytes p) b)
 unfolding told next
-in_place r b Outside s e = begun_right r b s e
-in_place r b (Inside p) s e = taken_fits r.bytes p.stage b s.places (stage_sound r p s.tested e)
+in_place r b None s e = begun_right r b s e
+in_place r b (Some p) s e = taken_fits r.bytes p.stage b s.places (stage_sound r p s.tested e)
 
 -- One byte: a sound receiver tells what the stream says, stands where the stream says, and is sound.
 pub byte_right : (r : Receiver) (b : ℕ) → Sound r → Right (after_byte r b) (told (standing r) b) (next (standing r) b)
 unfolding after_byte
-byte_right r b s = in_place r b r.place s refl
+byte_right r b s = in_place r b r.part s refl
 
 -- Any bytes.
 pub follows : (bs : List ℕ) (r : Receiver) → Sound r → answers r bs ≡ reading (standing r) bs

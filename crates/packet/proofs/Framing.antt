@@ -1,11 +1,12 @@
 -- A packet as runs of bytes, one behind the other.
 -- Assumes nothing.
-use Prim.Native.Nat.{ℕ, ◌+◌, ◌/◌, ◌%◌}
-use mathlib.Core.Path.{◌≡◌, refl, ap}
+use Prim.Native.Nat.{ℕ, ◌+◌, ◌/◌, ◌%◌, ◌<◌}
+use mathlib.Core.Path.{◌≡◌, refl, ap, ◌∙◌}
 use mathlib.Core.List.{List, [], ◌∷◌}
+use native.Mathlib.Omega.{arith}
 use lib.ListN.{length}
 use Rattle.base.specs.Wrote.{Wrote}
-use Rattle.base.proofs.Writing.{wrote_then, wrote_as}
+use Rattle.base.proofs.Writing.{wrote_then}
 use Rattle.crc.specs.Check.{check_of}
 use Rattle.packet.specs.Packets.{stx, etx, check_bytes, packet_of}
 
@@ -13,14 +14,12 @@ pub two_bytes : (s : List ℕ) → length (check_bytes s) ≡ 2
 unfolding check_bytes
 two_bytes s = refl
 
-pub checked :
-    {l m n : List ℕ} {i a b : ℕ} (s : List ℕ) (r : ℕ)
-    → Wrote l m i a (r / 256 ∷ [])
-    → Wrote m n a b (r % 256 ∷ [])
-    → r ≡ check_of s
-    → Wrote l n i b (check_bytes s)
+-- the bytes of a check, the high one first
+pub check_written : (s : List ℕ) (r : ℕ) → r ≡ check_of s → r < 65536 → (r / 256 % 256 ∷ r % 256 ∷ []) ≡ check_bytes s
 unfolding check_bytes
-checked s r u v e = wrote_as (wrote_then u v) (ap (λ (x : ℕ). x / 256 ∷ x % 256 ∷ []) e)
+check_written s r e h =
+    let high : r / 256 % 256 ≡ r / 256 = omega arith in
+    ap (λ (x : ℕ). x ∷ r % 256 ∷ []) high ∙ ap (λ (x : ℕ). x / 256 ∷ x % 256 ∷ []) e
 
 pub framed :
     {l m n o p w : List ℕ} {i a b c d e : ℕ} (s : List ℕ)

@@ -17,6 +17,7 @@
 -- Both ends:
 --     round_trip            what the sender writes, the receiver takes
 -- Assumes nothing.
+use Rattle.std.specs.Prelude.{Option, None}
 use Prim.Native.Nat.{ℕ, zero, suc, ◌+◌, ◌≤◌}
 use mathlib.Core.Path.{◌≡◌, refl, sym, ap, ap₂, subst, ◌∙◌}
 use mathlib.Core.Logic.{◌↔◌, ◌⊎◌, inl, inr, ⊎_elim}
@@ -34,8 +35,7 @@ use Rattle.packet.specs.Receiver.{outside_receiver, begun_by, after_in, after_by
 use Rattle.packet.specs.Follows.{standing, standing_in, answers, after_all, Sound, Answers, PlaceFact}
 use Rattle.packet.specs.Noise.{Noise}
 use Rattle.packet.specs.Timed.{paused, timed, timed_answers, Fresh}
-use Rattle.packet.specs.declared.receiver.Place.{Place}
-use Rattle.packet.specs.declared.receiver.Place.TheVariants.{Outside}
+use Rattle.packet.specs.declared.receiver.Part.{Part}
 use Rattle.packet.specs.declared.receiver.Receiver.{Receiver}
 use Rattle.packet.specs.declared.receiver.Outcome.TheVariants.{Nothing}
 use Rattle.packet.specs.declared.receiver.Arrived.{Arrived}
@@ -56,7 +56,7 @@ bytes_sound = all_sound
 pub quiet_sound : (n : ℕ) (r : Receiver) → Sound r → Sound (ticks n r)
 quiet_sound = ticks_sound
 
-pub sound_iff : (r : Receiver) → (sound_receiver r ≡ true) ↔ PlaceFact r.place
+pub sound_iff : (r : Receiver) → (sound_receiver r ≡ true) ↔ PlaceFact r.part
 sound_iff r = (facts_of r, test_of r)
 
 -- ---- the receiver follows the stream
@@ -65,7 +65,7 @@ follows_stream r bs s = record { reads = sym (follows bs r s); ends = sym (stand
 
 -- from outside a packet
 pub from_outside :
-    {bs : List ℕ} {hs : List Heard} {q : Standing} (r : Receiver) → Sound r → r.place ≡ Outside → Leads outside bs hs q → Answers r bs hs q
+    {bs : List ℕ} {hs : List Heard} {q : Standing} (r : Receiver) → Sound r → r.part ≡ None → Leads outside bs hs q → Answers r bs hs q
 from_outside {bs} r s e w =
     let o : standing r ≡ outside = ap (standing_in r.bytes) e in
     record {
@@ -108,17 +108,17 @@ ignored (b ∷ bs) h =
 
 -- of the receiver: not a bit of it changes
 pub byte_ignored :
-    (r : Receiver) (b : ℕ) → r.place ≡ Outside → (b ≡ stx → ⊥) → after_byte r b ≡ record { receiver = r; outcome = Nothing }
+    (r : Receiver) (b : ℕ) → r.part ≡ None → (b ≡ stx → ⊥) → after_byte r b ≡ record { receiver = r; outcome = Nothing }
 unfolding after_byte begun_by
-byte_ignored r b e n = ap (λ (p : Place). after_in r p b) e ∙ outer
+byte_ignored r b e n = ap (λ (p : Option Part). after_in r p b) e ∙ outer
   where
     outer : begun_by r b ≡ record { receiver = r; outcome = Nothing }
     outer = simp (ne_eqb b stx n)
 
-same_byte : (r : Receiver) (b : ℕ) → r.place ≡ Outside → (b ≡ stx → ⊥) → (after_byte r b).receiver ≡ r
+same_byte : (r : Receiver) (b : ℕ) → r.part ≡ None → (b ≡ stx → ⊥) → (after_byte r b).receiver ≡ r
 same_byte r b e n = ap (λ (a : Arrived). a.receiver) (byte_ignored r b e n)
 
-pub unchanged : (bs : List ℕ) (r : Receiver) → r.place ≡ Outside → NoStx bs → after_all r bs ≡ r
+pub unchanged : (bs : List ℕ) (r : Receiver) → r.part ≡ None → NoStx bs → after_all r bs ≡ r
 unfolding after_all
 unchanged [] r e h = refl
 unchanged (b ∷ bs) r e h = ap (λ (x : Receiver). after_all x bs) (same_byte r b e h.0) ∙ unchanged bs r e h.1
@@ -183,7 +183,7 @@ damaged_never_good d t h b c n w differs e m =
 pub receiver_good_packet :
     (r : Receiver) (d : List ℕ)
     → Sound r
-    → r.place ≡ Outside
+    → r.part ≡ None
     → length d ≤ 40
     → Answers r (packet_of d) (replicate (length d + 4) nothing ++ (good d ∷ [])) outside
 receiver_good_packet r d s e h = from_outside r s e (packet_comes d h)
@@ -191,7 +191,7 @@ receiver_good_packet r d s e h = from_outside r s e (packet_comes d h)
 pub receiver_damaged :
     (r : Receiver) (d t : List ℕ)
     → Sound r
-    → r.place ≡ Outside
+    → r.part ≡ None
     → length d ≤ 40
     → Bytes d
     → Bytes t
@@ -206,10 +206,10 @@ pub good_only : (bs d : List ℕ) → Among (good d) (reading outside bs) → Ho
 good_only = good_held
 
 -- The receiver's words: no list of bytes that holds no good packet yields one.
-pub receiver_good_only : (r : Receiver) (bs d : List ℕ) → Sound r → r.place ≡ Outside → Among (good d) (answers r bs) → HoldsPacket bs d
+pub receiver_good_only : (r : Receiver) (bs d : List ℕ) → Sound r → r.part ≡ None → Among (good d) (answers r bs) → HoldsPacket bs d
 receiver_good_only r bs d s e h =
     good_held bs d
-    (subst (Among (good d)) (follows bs r s ∙ ap (λ (p : Place). reading (standing_in r.bytes p) bs) e) h)
+    (subst (Among (good d)) (follows bs r s ∙ ap (λ (p : Option Part). reading (standing_in r.bytes p) bs) e) h)
 
 -- It is told at the packet's last byte.
 pub good_at_its_end : (bs : List ℕ) (b : ℕ) (d : List ℕ) → told (ended outside bs) b ≡ good d
@@ -218,7 +218,7 @@ good_at_its_end = told_at_end
 
 -- ---- quiet
 -- Bytes with any pauses between them, from a receiver to which no tick has come since its last byte.
-pub follows_timed : (ms : List (ℕ × ℕ)) (r : Receiver) → Sound r → Fresh r.place → timed_answers r ms ≡ timed (standing r) ms
+pub follows_timed : (ms : List (ℕ × ℕ)) (r : Receiver) → Sound r → Fresh r.part → timed_answers r ms ≡ timed (standing r) ms
 unfolding timed_answers timed
 follows_timed [] r s f = refl
 follows_timed (m ∷ ms) r s f =
@@ -240,7 +240,7 @@ quiet_499 r b n bs s h =
     ∙ sym (follows bs a k)
 
 -- 500 ticks after a byte nothing is left of a packet under way.
-pub quiet_500 : (r : Receiver) (b n : ℕ) → Sound r → 500 ≤ n → (ticks n (after_byte r b).receiver).place ≡ Outside
+pub quiet_500 : (r : Receiver) (b n : ℕ) → Sound r → 500 ≤ n → (ticks n (after_byte r b).receiver).part ≡ None
 quiet_500 r b n s h = dropped_late n (after_byte r b).receiver (byte_right r b s).sound (byte_fresh r b) h
 
 -- Ticks in one call or in two.
@@ -264,7 +264,7 @@ pub round_trip :
     → Wrote l m i j (packet_of d)
     → length d ≤ 40
     → Sound r
-    → r.place ≡ Outside
+    → r.part ≡ None
     → Answers r (take (length (packet_of d)) (drop i m)) (replicate (length d + 4) nothing ++ (good d ∷ [])) outside
 round_trip d r w h s e = subst (λ (u : List ℕ). Answers r u (replicate (length d + 4) nothing ++ (good d ∷ [])) outside) (sym (written w))
     (from_outside r s e (packet_comes d h))

@@ -1,6 +1,6 @@
 -- Ticks with no byte keep a receiver sound, add up, and count from the last byte.
 -- Assumes nothing.
-use Rattle.std.specs.Prelude.{if◌then◌else◌}
+use Rattle.std.specs.Prelude.{if◌then◌else◌, Option, None, Some}
 use Prim.Native.Nat.{ℕ, zero, suc, ◌+◌, ◌-◌, ◌≤◌, ◌<◌}
 use mathlib.Core.Path.{◌≡◌, refl, sym, ap, subst, ◌∙◌}
 use mathlib.Core.Bool.{Bool, true, false}
@@ -19,8 +19,7 @@ use Rattle.packet.specs.Streams.{outside}
 use Rattle.packet.specs.Timed.{paused, Fresh}
 use Rattle.packet.specs.declared.receiver.Stage.{Stage}
 use Rattle.packet.specs.declared.receiver.Stage.TheVariants.{Length, Data, High, Low, End}
-use Rattle.packet.specs.declared.receiver.Place.{Place}
-use Rattle.packet.specs.declared.receiver.Place.TheVariants.{Outside, Inside}
+use Rattle.packet.specs.declared.receiver.Part.{Part}
 use Rattle.packet.specs.declared.receiver.Receiver.{Receiver}
 use Rattle.packet.specs.declared.receiver.Outcome.TheVariants.{Nothing, Good}
 use Rattle.packet.specs.declared.receiver.Arrived.{Arrived}
@@ -43,26 +42,26 @@ stage_test (High n) h = le-leb n 40 h
 stage_test (Low n high) h = le-leb n 40 h
 stage_test (End n) h = le-leb n 40 h
 
-place_fact : (r : Receiver) (p : Place) → r.place ≡ p → sound_receiver r ≡ true → PlaceFact p
-place_fact r Outside e h = tt
-place_fact r (Inside p) e h = (not_late r p h e, stage_fact p.stage (stage_sound r p h e))
+place_fact : (r : Receiver) (p : Option Part) → r.part ≡ p → sound_receiver r ≡ true → PlaceFact p
+place_fact r None e h = tt
+place_fact r (Some p) e h = (not_late r p h e, stage_fact p.stage (stage_sound r p h e))
 
-pub facts_of : (r : Receiver) → sound_receiver r ≡ true → PlaceFact r.place
-facts_of r h = place_fact r r.place refl h
+pub facts_of : (r : Receiver) → sound_receiver r ≡ true → PlaceFact r.part
+facts_of r h = place_fact r r.part refl h
 
-place_test : (p : Place) → PlaceFact p → sound_place p ≡ true
-place_test Outside h = refl
-place_test (Inside p) h =
+place_test : (p : Option Part) → PlaceFact p → sound_place p ≡ true
+place_test None h = refl
+place_test (Some p) h =
     and_both (ltb p.quiet 500) (sound_stage p.stage) (lt-ltb p.quiet 500 h.0) (stage_test p.stage h.1)
 
-pub test_of : (r : Receiver) → PlaceFact r.place → sound_receiver r ≡ true
+pub test_of : (r : Receiver) → PlaceFact r.part → sound_receiver r ≡ true
 unfolding sound_receiver
-test_of r h = place_test r.place h
+test_of r h = place_test r.part h
 
 -- ---- ticks
-tick_in_sound : (r : Receiver) (p : Place) → Sound r → r.place ≡ p → Sound (tick_in r p)
-tick_in_sound r Outside s e = s
-tick_in_sound r (Inside p) s e = go (ltb (p.quiet + 1) 500) refl
+tick_in_sound : (r : Receiver) (p : Option Part) → Sound r → r.part ≡ p → Sound (tick_in r p)
+tick_in_sound r None s e = s
+tick_in_sound r (Some p) s e = go (ltb (p.quiet + 1) 500) refl
   where
     go : (t : Bool) → ltb (p.quiet + 1) 500 ≡ t
         → Sound (if t then waiting r.bytes p.stage (p.quiet + 1) else outside_receiver)
@@ -77,7 +76,7 @@ tick_in_sound r (Inside p) s e = go (ltb (p.quiet + 1) 500) refl
 
 pub tick_sound : (r : Receiver) → Sound r → Sound (tick r)
 unfolding tick
-tick_sound r s = tick_in_sound r r.place s refl
+tick_sound r s = tick_in_sound r r.part s refl
 
 pub ticks_sound : (n : ℕ) (r : Receiver) → Sound r → Sound (ticks n r)
 unfolding ticks
@@ -90,66 +89,66 @@ ticks_sum zero n r = ap (λ (k : ℕ). ticks k r) (zero-add n)
 ticks_sum (suc m) n r = ap (λ (k : ℕ). ticks k r) (suc-add m n) ∙ ticks_sum m n (tick r)
 
 -- ---- the ticks count from the last byte
-taken_fresh : (l : List ℕ) (g : Stage) (b : ℕ) → Fresh (taken_by l g b).receiver.place
+taken_fresh : (l : List ℕ) (g : Stage) (b : ℕ) → Fresh (taken_by l g b).receiver.part
 unfolding length_taken data_taken low_taken end_taken
 taken_fresh l Length b = go (is_length b) (eqb b 4)
   where
     go : (t u : Bool)
-        → Fresh (if t then if u then going_on (replicate 40 0) (High 0) else going_on (replicate 40 0) (Data 0 (b - 5)) else wrong_now).receiver.place
+        → Fresh (if t then if u then going_on (replicate 40 0) (High 0) else going_on (replicate 40 0) (Data 0 (b - 5)) else wrong_now).receiver.part
     go true true = refl
     go true false = refl
     go false u = tt
 taken_fresh l (Data have more) b = go (eqb more 0)
   where
     go : (t : Bool)
-        → Fresh (if t then going_on (set l have b) (High (have + 1)) else going_on (set l have b) (Data (have + 1) (more - 1))).receiver.place
+        → Fresh (if t then going_on (set l have b) (High (have + 1)) else going_on (set l have b) (Data (have + 1) (more - 1))).receiver.part
     go true = refl
     go false = refl
 taken_fresh l (High n) b = refl
 taken_fresh l (Low n high) b = go (is_check (take n l) high b)
   where
-    go : (t : Bool) → Fresh (if t then going_on l (End n) else wrong_now).receiver.place
+    go : (t : Bool) → Fresh (if t then going_on l (End n) else wrong_now).receiver.part
     go true = refl
     go false = tt
 taken_fresh l (End n) b = go (eqb b etx)
   where
     go : (t : Bool)
-        → Fresh (if◌then◌else◌ {A = Arrived} t (record { receiver = record { bytes = l; place = Outside }; outcome = Good n }) wrong_now).receiver.place
+        → Fresh (if◌then◌else◌ {A = Arrived} t (record { receiver = record { bytes = l; part = None }; outcome = Good n }) wrong_now).receiver.part
     go true = tt
     go false = tt
 
-fresh_in : (r : Receiver) (p : Place) (b : ℕ) → r.place ≡ p → Fresh (after_in r p b).receiver.place
+fresh_in : (r : Receiver) (p : Option Part) (b : ℕ) → r.part ≡ p → Fresh (after_in r p b).receiver.part
 unfolding begun_by
-fresh_in r Outside b e = go (eqb b stx)
+fresh_in r None b e = go (eqb b stx)
   where
     go : (t : Bool)
-        → Fresh (if◌then◌else◌ {A = Arrived} t (going_on (replicate 40 0) Length) (record { receiver = r; outcome = Nothing })).receiver.place
+        → Fresh (if◌then◌else◌ {A = Arrived} t (going_on (replicate 40 0) Length) (record { receiver = r; outcome = Nothing })).receiver.part
     go true = refl
     go false = subst Fresh (sym e) tt
-fresh_in r (Inside p) b e = taken_fresh r.bytes p.stage b
+fresh_in r (Some p) b e = taken_fresh r.bytes p.stage b
 
-pub byte_fresh : (r : Receiver) (b : ℕ) → Fresh (after_byte r b).receiver.place
+pub byte_fresh : (r : Receiver) (b : ℕ) → Fresh (after_byte r b).receiver.part
 unfolding after_byte
-byte_fresh r b = fresh_in r r.place b refl
+byte_fresh r b = fresh_in r r.part b refl
 
 -- what a receiver waits for stands for fewer than 500 ticks, and not for more
-kept_in : (n : ℕ) (r : Receiver) (p : Place) → Sound r → r.place ≡ p → Fresh p → n < 500 → standing (ticks n r) ≡ standing r
-kept_in n r Outside s e f h = ap standing (ticks_outside n r e)
-kept_in n r (Inside p) s e f h =
+kept_in : (n : ℕ) (r : Receiver) (p : Option Part) → Sound r → r.part ≡ p → Fresh p → n < 500 → standing (ticks n r) ≡ standing r
+kept_in n r None s e f h = ap standing (ticks_outside n r e)
+kept_in n r (Some p) s e f h =
     ap standing (sym (waits r p n s.tested e (omega arith))) ∙ ap (standing_in r.bytes) (sym e)
 
-dropped_in : (n : ℕ) (r : Receiver) (p : Place) → Sound r → r.place ≡ p → Fresh p → 500 ≤ n → (ticks n r).place ≡ Outside
-dropped_in n r Outside s e f h = ap (λ (x : Receiver). x.place) (ticks_outside n r e) ∙ e
-dropped_in n r (Inside p) s e f h = ap (λ (x : Receiver). x.place) (sym (drops r p n s.tested e (omega arith)))
+dropped_in : (n : ℕ) (r : Receiver) (p : Option Part) → Sound r → r.part ≡ p → Fresh p → 500 ≤ n → (ticks n r).part ≡ None
+dropped_in n r None s e f h = ap (λ (x : Receiver). x.part) (ticks_outside n r e) ∙ e
+dropped_in n r (Some p) s e f h = ap (λ (x : Receiver). x.part) (sym (drops r p n s.tested e (omega arith)))
 
-pub kept_waiting : (n : ℕ) (r : Receiver) → Sound r → Fresh r.place → n < 500 → standing (ticks n r) ≡ standing r
-kept_waiting n r s f h = kept_in n r r.place s refl f h
+pub kept_waiting : (n : ℕ) (r : Receiver) → Sound r → Fresh r.part → n < 500 → standing (ticks n r) ≡ standing r
+kept_waiting n r s f h = kept_in n r r.part s refl f h
 
-pub dropped_late : (n : ℕ) (r : Receiver) → Sound r → Fresh r.place → 500 ≤ n → (ticks n r).place ≡ Outside
-dropped_late n r s f h = dropped_in n r r.place s refl f h
+pub dropped_late : (n : ℕ) (r : Receiver) → Sound r → Fresh r.part → 500 ≤ n → (ticks n r).part ≡ None
+dropped_late n r s f h = dropped_in n r r.part s refl f h
 
 -- both, as the stream has them
-pub stands_paused : (n : ℕ) (r : Receiver) → Sound r → Fresh r.place → standing (ticks n r) ≡ paused n (standing r)
+pub stands_paused : (n : ℕ) (r : Receiver) → Sound r → Fresh r.part → standing (ticks n r) ≡ paused n (standing r)
 unfolding paused
 stands_paused n r s f = go (ltb n 500) refl
   where

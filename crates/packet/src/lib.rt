@@ -10,5 +10,11 @@
 mod receiver;
 mod sender;
 
-pub use receiver::{Arrived, Outcome, Part, Place, Receiver, Stage};
+pub use receiver::{Arrived, Outcome, Part, Receiver, Stage};
 pub use sender::send;
+
+// What begins a packet, and an answer that is a line.
+pub const STX: u8 = 2;
+
+// What ends them.
+pub const ETX: u8 = 3;

@@ -1,8 +1,10 @@
 // What has come of a packet. The places of the array past what came hold zeros while a packet is under way; so do all of them behind a
 // wrong packet and a dropped one, so that equal histories give equal receivers. Behind a good one the data stay, for the caller to read.
 ghost use Rattle.std.specs.Prelude.{◌≡◌, true, ◌≤◌, ◌<◌, ◌+◌};
-ghost use Rattle.packet.specs.Receiver.{outside_receiver, going_on, wrong_now, length_taken, data_taken, low_taken, end_taken};
+ghost use Rattle.packet.specs.Receiver.{outside_receiver, waiting, going_on, wrong_now, length_taken, data_taken, low_taken, end_taken};
 ghost use Rattle.packet.specs.Receiver.{begun_by, taken_by, after_byte, sound_stage, sound_receiver, tick, ticks};
+
+use crate::{ETX, STX};
 
 // What the next byte of a packet is.
 #[derive(Clone, Copy)]
@@ -26,18 +28,15 @@ pub struct Part {
     pub quiet: u16,
 }
 
-#[derive(Clone, Copy)]
-pub enum Place {
-    Outside,
-    Inside(Part),
-}
-
+// Where there is no part, the receiver is outside a packet. That it is sound is a clause: a pump takes any state that is handed in, and
+// refuses one that is not.
 #[derive(Clone, Copy)]
 pub struct Receiver {
     pub bytes: [u8; 40],
-    pub place: Place,
+    pub part: Option<Part>,
 }
 
+// Three outcomes of a byte: an Option would add a `Some` wherever one is made, and take no test away.
 #[derive(Clone, Copy)]
 pub enum Outcome {
     // no answer is due for this byte
@@ -54,10 +53,6 @@ pub struct Arrived {
     pub outcome: Outcome,
 }
 
-const STX: u8 = 2;
-
-const ETX: u8 = 3;
-
 // "A part packet with no byte for 500 ticks is dropped in silence."   (02, 2/12)
 const PATIENCE: u64 = 500;
 
@@ -67,7 +62,7 @@ impl Receiver {
     {
         Receiver {
             bytes: [0; 40],
-            place: Place::Outside,
+            part: None,
         }
     }
 
@@ -76,13 +71,9 @@ impl Receiver {
         requires { sound_receiver self ≡ true }
         ensures { result ≡ after_byte self b }
     {
-        let place = self.place;
-        match place {
-            Place::Outside => self.begun_by(b),
-            Place::Inside(part) => {
-                let stage = part.stage;
-                self.taken(stage, b)
-            }
+        match self.part {
+            None => self.begun_by(b),
+            Some(part) => self.taken(part.stage, b),
         }
     }
 
@@ -99,22 +90,12 @@ impl Receiver {
         requires { sound_receiver self ≡ true }
         ensures { result ≡ ticks n self }
     {
-        let place = self.place;
-        match place {
-            Place::Outside => self,
-            Place::Inside(part) => {
-                let passed = (part.quiet as u64) + (n as u64);
+        match self.part {
+            None => self,
+            Some(part) => {
+                let passed = part.quiet as u64 + n as u64;
                 if passed < PATIENCE {
-                    let bytes = self.bytes;
-                    let stage = part.stage;
-                    let waiting = Part {
-                        stage: stage,
-                        quiet: passed as u16,
-                    };
-                    return Receiver {
-                        bytes: bytes,
-                        place: Place::Inside(waiting),
-                    };
+                    return waiting(self.bytes, part.stage, passed as u16);
                 }
                 Receiver::outside()
             }
@@ -125,13 +106,9 @@ impl Receiver {
     pub fn sound(self) -> bool
         ensures { result ≡ sound_receiver self }
     {
-        let place = self.place;
-        match place {
-            Place::Outside => true,
-            Place::Inside(part) => {
-                let stage = part.stage;
-                (part.quiet < 500) & sound_stage(stage)
-            }
+        match self.part {
+            None => true,
+            Some(part) => (part.quiet < 500) & sound_stage(part.stage),
         }
     }
 
@@ -153,11 +130,10 @@ impl Receiver {
         requires { sound_stage stage ≡ true }
         ensures { result ≡ taken_by self.bytes stage b }
     {
-        let bytes = self.bytes;
         match stage {
             Stage::Length => length_taken(b),
             Stage::Data(have, more) => self.data_taken(have, more, b),
-            Stage::High(n) => going_on(bytes, Stage::Low(n, b)),
+            Stage::High(n) => going_on(self.bytes, Stage::Low(n, b)),
             Stage::Low(n, high) => self.low_taken(n, high, b),
             Stage::End(n) => self.end_taken(n, b),
         }
@@ -168,13 +144,11 @@ impl Receiver {
         requires { have + more < 40 }
         ensures { result ≡ data_taken self.bytes have more b }
     {
-        let at = have as usize;
-        self.bytes[at] = b;
-        let bytes = self.bytes;
+        self.bytes[have as usize] = b;
         if more == 0 {
-            return going_on(bytes, Stage::High(have + 1));
+            return going_on(self.bytes, Stage::High(have + 1));
         }
-        going_on(bytes, Stage::Data(have + 1, more - 1))
+        going_on(self.bytes, Stage::Data(have + 1, more - 1))
     }
 
     // The second check byte: the check is judged here, before ETX is known, so that a wrong one is answered at once.
@@ -182,11 +156,9 @@ impl Receiver {
         requires { n ≤ 40 }
         ensures { result ≡ low_taken self.bytes n high b }
     {
-        let bytes = self.bytes;
-        let m = n as usize;
-        let check = crc::check(&bytes[..m]);
-        if (high as u16 == check / 256) & (b as u16 == check % 256) {
-            return going_on(bytes, Stage::End(n));
+        let check = crc::check(&self.bytes[..n as usize]);
+        if [high, b] == check.to_be_bytes() {
+            return going_on(self.bytes, Stage::End(n));
         }
         wrong()
     }
@@ -197,12 +169,9 @@ impl Receiver {
     {
         if b == ETX {
             let bytes = self.bytes;
-            let receiver = Receiver {
-                bytes: bytes,
-                place: Place::Outside,
-            };
+            let receiver = Receiver { bytes, part: None };
             return Arrived {
-                receiver: receiver,
+                receiver,
                 outcome: Outcome::Good(n),
             };
         }
@@ -214,18 +183,18 @@ impl Receiver {
 fn going_on(bytes: [u8; 40], stage: Stage) -> Arrived
     ensures { result ≡ going_on bytes stage }
 {
-    let part = Part {
-        stage: stage,
-        quiet: 0,
-    };
-    let receiver = Receiver {
-        bytes: bytes,
-        place: Place::Inside(part),
-    };
     Arrived {
-        receiver: receiver,
+        receiver: waiting(bytes, stage, 0),
         outcome: Outcome::Nothing,
     }
+}
+
+// In a packet, with so many ticks since the last byte.
+fn waiting(bytes: [u8; 40], stage: Stage, quiet: u16) -> Receiver
+    ensures { result ≡ waiting bytes stage quiet }
+{
+    let part = Some(Part { stage, quiet });
+    Receiver { bytes, part }
 }
 
 // A packet that is wrong: what follows is outside.
@@ -242,13 +211,11 @@ fn wrong() -> Arrived
 fn length_taken(b: u8) -> Arrived
     ensures { result ≡ length_taken b }
 {
-    if (4 <= b) & (b <= 44) {
-        if b == 4 {
-            return going_on([0; 40], Stage::High(0));
-        }
-        return going_on([0; 40], Stage::Data(0, b - 5));
+    match b {
+        4 => going_on([0; 40], Stage::High(0)),
+        5..=44 => going_on([0; 40], Stage::Data(0, b - 5)),
+        _ => wrong(),
     }
-    wrong()
 }
 
 fn sound_stage(stage: Stage) -> bool

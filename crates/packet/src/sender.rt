@@ -3,11 +3,8 @@ ghost use Rattle.std.specs.Prelude.{◌+◌, ◌≤◌, length};
 ghost use Rattle.base.specs.Wrote.{Wrote};
 ghost use Rattle.packet.specs.Packets.{check_bytes, packet_of};
 
+use crate::{ETX, STX};
 use base::{copy, put};
-
-const STX: u8 = 2;
-
-const ETX: u8 = 3;
 
 // Writes the packet of `text` from `at` on and answers the next place. The other bytes stay.
 pub fn send(text: &[u8], out: &mut [u8], at: usize) -> usize
@@ -27,7 +24,5 @@ fn put_check(out: &mut [u8], at: usize, text: &[u8]) -> usize
     requires { at + 2 ≤ length out.old }
     ensures { Wrote out.old out.new at result (check_bytes text.now) }
 {
-    let check = crc::check(text);
-    let a = put(out, at, (check / 256) as u8);
-    put(out, a, (check % 256) as u8)
+    copy(out, at, &crc::check(text).to_be_bytes())
 }

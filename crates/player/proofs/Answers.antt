@@ -1,6 +1,6 @@
 -- The answer to a byte: none, or one with STX and ETX, a line or a packet, that the buffer holds.
 -- Assumes nothing.
-use Rattle.std.specs.Prelude.{if◌then◌else◌}
+use Rattle.std.specs.Prelude.{if◌then◌else◌, Option}
 use Prim.Native.Nat.{ℕ, ◌≤◌}
 use mathlib.Core.Path.{◌≡◌, refl}
 use mathlib.Core.Logic.{◌⊎◌, inl, inr, ⊎_elim}
@@ -39,15 +39,15 @@ pub byte_sized : (p : Pump) (b : ℕ) → Sized (byte_report p b zeros).length
 unfolding byte_report
 byte_sized p b = go (of_byte (is_sound_pump p) (length zeros))
   where
-    by : (refusal : Refusal) (t : Bool) → Sized (if t then refused p refusal else received p b zeros).length
+    by : (refusal : Option Refusal) (t : Bool) → Sized (if t then refused p refusal else received p b zeros).length
     by refusal true = inl refl
     by refusal false = heard_sized (frame_of p) (hear p b)
 
-    go : (refusal : Refusal) → Sized (if is_refused refusal then refused p refusal else received p b zeros).length
+    go : (refusal : Option Refusal) → Sized (if is_refused refusal then refused p refusal else received p b zeros).length
     go refusal = by refusal (is_refused refusal)
 
 pub sized : (p : Pump) (b : ℕ) (r : Report) → r ≡ byte_report p b zeros → Sized r.length
 sized p b r e = rw e (byte_sized p b)
 
-pub some_sized : (n : ℕ) → Sized n → (n ≡ 0 → ⊥) → (2 ≤ n) × (n ≤ 24)
-some_sized n s z = ⊎_elim (λ h. absurd (z h)) (λ h. h) s
+pub few_sized : (n : ℕ) → Sized n → n ≤ 24
+few_sized n s = ⊎_elim (λ z. omega arith) (λ h. h.1) s

@@ -3,7 +3,7 @@
 --     some_done     it does at least one, where any is asked for and it is not refused
 --     sent_sized    what it sends fits the buffer
 -- Assumes nothing.
-use Rattle.std.specs.Prelude.{if◌then◌else◌}
+use Rattle.std.specs.Prelude.{if◌then◌else◌, Option, None, Some}
 use Prim.Native.Nat.{ℕ, zero, suc, ◌≤◌}
 use mathlib.Core.Path.{◌≡◌, refl, sym, ◌∙◌}
 use mathlib.Core.Bool.{Bool, true, false}
@@ -22,7 +22,7 @@ use Rattle.pump.specs.Holder.{is_sound_pump}
 use Rattle.pump.specs.Reports.{of_byte, of_ticks, is_refused, refused, moved_by, Outcome}
 use Rattle.pump.specs.declared.holder.Pump.{Pump}
 use Rattle.pump.specs.declared.reports.Refusal.{Refusal}
-use Rattle.pump.specs.declared.reports.Refusal.TheVariants.{Accepted, ShortBuffer, Unsound, TooManyTicks}
+use Rattle.pump.specs.declared.reports.Refusal.TheVariants.{ShortBuffer, Unsound, TooManyTicks}
 use Rattle.pump.specs.declared.reports.Report.{Report}
 
 -- ---- one tick
@@ -35,14 +35,14 @@ lengthy f s buffer = by (leb room (length buffer))
     by false = omega arith
 
 module _ (p : Pump) (buffer : List ℕ) where
-  abbrev told : Refusal → Bool → Report
+  abbrev told : Option Refusal → Bool → Report
   told refusal t = if t then refused p refusal else moved_by p (tick_at p) buffer
 
   tick_few : (tick_call p buffer).ticks ≤ 1
   unfolding tick_call
   tick_few = by (of_byte (is_sound_pump p) (length buffer)) (is_refused (of_byte (is_sound_pump p) (length buffer)))
     where
-      by : (refusal : Refusal) (t : Bool) → (told refusal t).ticks ≤ 1
+      by : (refusal : Option Refusal) (t : Bool) → (told refusal t).ticks ≤ 1
       by refusal true = omega arith
       by refusal false = omega arith
 
@@ -50,7 +50,7 @@ module _ (p : Pump) (buffer : List ℕ) where
   unfolding tick_call
   tick_sized = by (of_byte (is_sound_pump p) (length buffer)) (is_refused (of_byte (is_sound_pump p) (length buffer)))
     where
-      by : (refusal : Refusal) (t : Bool) → (told refusal t).length ≤ 24
+      by : (refusal : Option Refusal) (t : Bool) → (told refusal t).length ≤ 24
       by refusal true = omega arith
       by refusal false = lengthy _ _ buffer
 
@@ -108,24 +108,24 @@ one_taken sound size n h = by sound (ltb size room) (ltb most_ticks n) h
   where
     by :
         (s short many : Bool)
-        → is_refused (if s then if short then ShortBuffer else if many then TooManyTicks else Accepted else Unsound) ≡ false
-        → is_refused (if s then if short then ShortBuffer else Accepted else Unsound) ≡ false
+        → is_refused (if s then if short then Some ShortBuffer else if many then Some TooManyTicks else None else Some Unsound) ≡ false
+        → is_refused (if s then if short then Some ShortBuffer else None else Some Unsound) ≡ false
     by true true many e = e
     by true false many e = refl
     by false short many e = e
 
 module _ (p : Pump) (n : ℕ) (buffer : List ℕ) where
-  abbrev refusal : Refusal
+  abbrev refusal : Option Refusal
   refusal = of_ticks (is_sound_pump p) (length buffer) n
 
-  abbrev reports : Refusal → Bool → Report
+  abbrev reports : Option Refusal → Bool → Report
   reports x t = if t then refused p x else (in_turn n p buffer).report
 
   pub few_done : (ticks_call p n buffer).ticks ≤ n
   unfolding ticks_call
   few_done = by refusal (is_refused refusal)
     where
-      by : (x : Refusal) (t : Bool) → (reports x t).ticks ≤ n
+      by : (x : Option Refusal) (t : Bool) → (reports x t).ticks ≤ n
       by x true = omega arith
       by x false = turns_few p buffer n
 
@@ -133,7 +133,7 @@ module _ (p : Pump) (n : ℕ) (buffer : List ℕ) where
   unfolding ticks_call
   sent_sized = by refusal (is_refused refusal)
     where
-      by : (x : Refusal) (t : Bool) → (reports x t).length ≤ 24
+      by : (x : Option Refusal) (t : Bool) → (reports x t).length ≤ 24
       by x true = omega arith
       by x false = turns_sized p buffer n
 
@@ -142,7 +142,7 @@ module _ (p : Pump) (n : ℕ) (buffer : List ℕ) where
   some_done some taken = by refusal (is_refused refusal) refl (one_taken (is_sound_pump p) (length buffer) n) taken
     where
       by :
-          (x : Refusal) (t : Bool)
+          (x : Option Refusal) (t : Bool)
           → is_refused x ≡ t
           → (is_refused x ≡ false → is_refused (of_byte (is_sound_pump p) (length buffer)) ≡ false)
           → is_refused (reports x t).refusal ≡ false

@@ -1,7 +1,7 @@
 -- The table over bytes says just what the lines and their items say: what the program prints for an input is `script_of` of it, and the
 -- pump that it leaves is the one behind the lines.
 -- Assumes nothing.
-use Rattle.std.specs.Prelude.{if◌then◌else◌}
+use Rattle.std.specs.Prelude.{if◌then◌else◌, None}
 use Prim.Native.Nat.{ℕ, zero, suc, ◌≤◌}
 use mathlib.Core.Path.{◌≡◌, refl, sym, ap, ◌∙◌}
 use mathlib.Core.Bool.{Bool, true, false}
@@ -78,7 +78,7 @@ module _ (p : Pump) (r : List ℕ) where
   set_or_none true pin high = refl
   set_or_none false pin high = refl
 
-  level_done : (l : List ℕ) → acted (idle p) (pin_act false 0 l) r ≡ done p (level_item (up_to_blank l) (past_blank l)) r
+  level_done : (l : List ℕ) → acted (idle p) (pin_act None l) r ≡ done p (level_item (up_to_blank l) (past_blank l)) r
   unfolding level_item
   level_done l =
       ap (λ (a : Act). acted (idle p) a r) (level_parts l)
@@ -90,7 +90,7 @@ module _ (p : Pump) (r : List ℕ) where
     where
       go :
           (t : Bool)
-          → acted (idle p) (if t then pin_act false 0 l else Complain) r
+          → acted (idle p) (if t then pin_act None l else Complain) r
           ≡ done p (if t then level_item (up_to_blank l) (past_blank l) else no_item) r
       go true = level_done l
       go false = refl

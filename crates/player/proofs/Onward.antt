@@ -1,7 +1,7 @@
 -- What an input prints from a place of a line on, its end included, and the rig that it leaves: within a line that is no text nothing
 -- is done, and at its end what its parts ask for.
 -- Assumes nothing.
-use Rattle.std.specs.Prelude.{if◌then◌else◌}
+use Rattle.std.specs.Prelude.{Option, Some, None, unwrap_or}
 use Prim.Native.Nat.{ℕ, ◌+◌, ◌*◌, ◌-◌}
 use mathlib.Core.Path.{◌≡◌, refl, sym, ap, ◌∙◌}
 use mathlib.Core.Logic.{inl}
@@ -24,8 +24,8 @@ use Rattle.script.specs.declared.places.Spot.{Spot}
 use Rattle.script.specs.declared.places.Spot.TheVariants.{Start, Tick, Ticks, Edge, Pin, Level, Returned, Bad}
 use Rattle.player.specs.declared.rigs.Rig.{Rig}
 use Rattle.script.proofs.Cuts.{Cut, ended, at_newline_lem, at_both, at_return, at_other}
-use Rattle.script.proofs.Parts.{ticks_act, level_act, pin_act, tick_act, edge_act}
-use Rattle.script.proofs.Saturating.{Alike, alike_grown, same_verdict}
+use Rattle.script.proofs.Parts.{ticks_act, level_act, blank_act, pin_act, tick_act, edge_act}
+use Rattle.script.proofs.Saturating.{Alike, AlikeOnce, none_yet, both_there, alike_grown, alike_once_grown, same_verdict, same_level}
 
 -- ---- all that is printed from here on, and the rig that is left behind the end
 pub record Outcome : Type 0 where
@@ -135,88 +135,86 @@ module _ (g : Rig) where
 -- ---- the level of a pin
 module _ (g : Rig) (pin pin' : ℕ) (like : Alike pin pin') where
   level_byte :
-      (some : Bool) (n m b : ℕ) {s l r : List ℕ}
+      (n m : Option ℕ) (b : ℕ) {s l r : List ℕ}
       → Cut s l r
-      → onward g (Level pin true (grown n (b - 48))) s ≡ acted g (level_act pin' true (m * 10 + (b - 48)) l) r
+      → onward g (Level pin (Some (grown (unwrap_or n 0) (b - 48)))) s
+      ≡ acted g (level_act pin' (Some (unwrap_or m 0 * 10 + (b - 48))) l) r
       → (t : Bool)
       → is_digit b ≡ t
-      → onward g (in_level pin n b) s ≡ acted g (level_act pin' some m (b ∷ l)) r
+      → onward g (in_level pin n b) s ≡ acted g (level_act pin' m (b ∷ l)) r
   unfolding in_level level_act
-  level_byte some n m b d ih true e = rw e ih
-  level_byte some n m b d ih false e = rw e (bad_line g d)
+  level_byte n m b d ih true e = rw e ih
+  level_byte n m b d ih false e = rw e (bad_line g d)
 
   pub level_line :
-      (some : Bool) (n m : ℕ)
-      → Alike n m
+      (n m : Option ℕ)
+      → AlikeOnce n m
       → {s l r : List ℕ}
       → Cut s l r
-      → onward g (Level pin some n) s ≡ acted g (level_act pin' some m l) r
+      → onward g (Level pin n) s ≡ acted g (level_act pin' m l) r
   unfolding onward after_spot level_act
-  level_line some n m k ended =
-      ap (λ (a : Act). at_end g a) ((same_verdict k).1 pin pin' some like) ∙ acted_last g (level_asked pin' some m)
-  level_line some n m k (at_newline_lem r) = ap (λ (a : Act). acted g a r) ((same_verdict k).1 pin pin' some like)
-  level_line some n m k (at_both r) = ap (λ (a : Act). acted g a r) ((same_verdict k).1 pin pin' some like)
-  level_line some n m k (at_return s l r h d) = rw return_no_digit (returned_line g (level_asked pin some n) h d)
-  level_line some n m k (at_other b s l r e f d) =
-      onward_other g (Level pin some n) b s e f
+  level_line n m k ended = ap (λ (a : Act). at_end g a) (same_level like k) ∙ acted_last g (level_asked pin' m)
+  level_line n m k (at_newline_lem r) = ap (λ (a : Act). acted g a r) (same_level like k)
+  level_line n m k (at_both r) = ap (λ (a : Act). acted g a r) (same_level like k)
+  level_line n m k (at_return s l r h d) = rw return_no_digit (returned_line g (level_asked pin n) h d)
+  level_line n m k (at_other b s l r e f d) =
+      onward_other g (Level pin n) b s e f
       ∙ level_byte
-      some
       n
       m
       b
       d
-      (level_line true (grown n (b - 48)) (m * 10 + (b - 48)) (alike_grown n m (b - 48) k) d)
+      (level_line
+      (Some (grown (unwrap_or n 0) (b - 48)))
+      (Some (unwrap_or m 0 * 10 + (b - 48)))
+      (both_there (alike_once_grown (b - 48) k))
+      d)
       (is_digit b)
       refl
 
 -- ---- a pin
 module _ (g : Rig) where
   pin_blank :
-      (some : Bool) (n m : ℕ)
-      → Alike n m
+      {n m : Option ℕ}
+      → AlikeOnce n m
       → {s l r : List ℕ}
       → Cut s l r
-      → onward g (pin_ended some n) s ≡ acted g (if some then level_act m false 0 l else Complain) r
+      → onward g (pin_ended n) s ≡ acted g (blank_act m l) r
   unfolding pin_ended
-  pin_blank true n m k d = level_line g n m k false 0 0 (inl refl) d
-  pin_blank false n m k d = bad_line g d
+  pin_blank (both_there {n} {m} k) d = level_line g n m k None None none_yet d
+  pin_blank none_yet d = bad_line g d
 
   pin_byte :
-      (some : Bool) (n m b : ℕ)
-      → Alike n m
+      (n m : Option ℕ) (b : ℕ)
+      → AlikeOnce n m
       → {s l r : List ℕ}
       → Cut s l r
-      → onward g (Pin true (grown n (b - 48))) s ≡ acted g (pin_act true (m * 10 + (b - 48)) l) r
+      → onward g (Pin (Some (grown (unwrap_or n 0) (b - 48)))) s ≡ acted g (pin_act (Some (unwrap_or m 0 * 10 + (b - 48))) l) r
       → (t u : Bool)
       → is_digit b ≡ t
       → eqb b (letter " ") ≡ u
-      → onward g (in_pin some n b) s ≡ acted g (pin_act some m (b ∷ l)) r
+      → onward g (in_pin n b) s ≡ acted g (pin_act m (b ∷ l)) r
   unfolding in_pin pin_act
-  pin_byte some n m b k d ih true u e f = rw e ih
-  pin_byte some n m b k d ih false true e f = rw (e, f) (pin_blank some n m k d)
-  pin_byte some n m b k d ih false false e f = rw (e, f) (bad_line g d)
+  pin_byte n m b k d ih true u e f = rw e ih
+  pin_byte n m b k d ih false true e f = rw (e, f) (pin_blank k d)
+  pin_byte n m b k d ih false false e f = rw (e, f) (bad_line g d)
 
   pub pin_line :
-      (some : Bool) (n m : ℕ)
-      → Alike n m
-      → {s l r : List ℕ}
-      → Cut s l r
-      → onward g (Pin some n) s ≡ acted g (pin_act some m l) r
+      (n m : Option ℕ) → AlikeOnce n m → {s l r : List ℕ} → Cut s l r → onward g (Pin n) s ≡ acted g (pin_act m l) r
   unfolding onward after_spot pin_act
-  pin_line some n m k ended = refl
-  pin_line some n m k (at_newline_lem r) = refl
-  pin_line some n m k (at_both r) = refl
-  pin_line some n m k (at_return s l r h d) = rw return_no_digit (bad_line g d)
-  pin_line some n m k (at_other b s l r e f d) =
-      onward_other g (Pin some n) b s e f
+  pin_line n m k ended = refl
+  pin_line n m k (at_newline_lem r) = refl
+  pin_line n m k (at_both r) = refl
+  pin_line n m k (at_return s l r h d) = rw return_no_digit (bad_line g d)
+  pin_line n m k (at_other b s l r e f d) =
+      onward_other g (Pin n) b s e f
       ∙ pin_byte
-      some
       n
       m
       b
       k
       d
-      (pin_line true (grown n (b - 48)) (m * 10 + (b - 48)) (alike_grown n m (b - 48) k) d)
+      (pin_line (Some (grown (unwrap_or n 0) (b - 48))) (Some (unwrap_or m 0 * 10 + (b - 48))) (both_there (alike_once_grown (b - 48) k)) d)
       (is_digit b)
       (eqb b (letter " "))
       refl
@@ -249,7 +247,7 @@ module _ (g : Rig) where
       → eqb b (letter " ") ≡ t
       → onward g (behind_edge b) s ≡ acted g (edge_act (b ∷ l)) r
   unfolding behind_edge
-  edge_byte b d true e = rw e (pin_line g false 0 0 (inl refl) d)
+  edge_byte b d true e = rw e (pin_line g None None none_yet d)
   edge_byte b d false e = rw e (bad_line g d)
 
   pub edge_line : {s l r : List ℕ} → Cut s l r → onward g Edge s ≡ acted g (edge_act l) r

@@ -2,26 +2,21 @@
 -- Assumes nothing.
 use Prim.Native.Nat.{ℕ, zero, suc, ◌+◌, ◌-◌, ◌≤◌, ◌<◌}
 use mathlib.Core.Path.{◌≡◌, refl, sym, ap, ◌∙◌}
-use mathlib.Core.Bool.{Bool, true, false, ◌&&◌}
+use mathlib.Core.Bool.{false}
 use mathlib.Core.List.{List, [], ◌∷◌, ◌++◌, append_assoc, append-nil}
 use native.Mathlib.Numerals.{add-one}
 use native.Mathlib.Omega.{arith}
-use lib.Dec.{leb, ltb}
 use lib.ListN.{length, take, get_or}
 use lib.Seq.{take-suc}
-use borrow.Author.Tests.{ltb-true, ltb-false, leb-true, leb-false}
 use Rattle.base.specs.Wrote.{Wrote}
-use Rattle.base.proofs.Choices.{and_left, and_right}
 use Rattle.base.proofs.Writing.{wrote_as, wrote_then, wrote_none, wrote_length}
 use Rattle.script.specs.Places.{is_deed, after_spot, input_end}
-use Rattle.player.specs.Printing.{Prints}
 use Rattle.player.specs.Rigs.{rig_after, printed}
 use Rattle.player.specs.Scripts.{bench_after, turn_says, play, says, closed, Feeds}
 use Rattle.script.specs.declared.places.Act.{Act}
 use Rattle.player.specs.declared.feeding.Bench.{Bench}
 use Rattle.script.specs.declared.places.Spot.{Spot}
 use Rattle.script.specs.declared.places.Step.{Step}
-use Rattle.player.specs.declared.rigs.Acted.{Acted}
 use Rattle.player.specs.declared.rigs.Rig.{Rig}
 use Rattle.script.proofs.Deeds.{waits}
 
@@ -32,10 +27,9 @@ module _ (w : Bench) (b : ℕ) (step : Step) (e : step ≡ after_spot w.place b)
   unfolding bench_after
   turn_bench r f = rw (f, e)
 
-  pub turn_wrote :
-      {l m : List ℕ} {i j most : ℕ} → Prints l m i j most (printed w.rig step.act) → Wrote l m i j (turn_says w b)
+  pub turn_wrote : {l m : List ℕ} {i j : ℕ} → Wrote l m i j (printed w.rig step.act) → Wrote l m i j (turn_says w b)
   unfolding turn_says
-  turn_wrote p = wrote_as p.wrote (ap (λ (s : Step). printed w.rig s.act) e)
+  turn_wrote p = wrote_as p (ap (λ (s : Step). printed w.rig s.act) e)
 
   -- nothing is asked for
   module _ (d : is_deed step.act ≡ false) where
@@ -53,10 +47,10 @@ module _ (w : Bench) (b : ℕ) (step : Step) (e : step ≡ after_spot w.place b)
 
 -- ---- the end of the input
 pub closing_wrote :
-    (w : Bench) (a : Act) → a ≡ input_end w.place → {l m : List ℕ} {i j most : ℕ} → Prints l m i j most (printed w.rig a)
+    (w : Bench) (a : Act) → a ≡ input_end w.place → {l m : List ℕ} {i j : ℕ} → Wrote l m i j (printed w.rig a)
     → Wrote l m i j (closed w)
 unfolding closed
-closing_wrote w a e p = wrote_as p.wrote (ap (printed w.rig) e)
+closing_wrote w a e p = wrote_as p (ap (printed w.rig) e)
 
 -- ---- bytes and one byte more
 pub played_append : (w : Bench) (s t : List ℕ) → play w (s ++ t) ≡ play (play w s) t
@@ -117,9 +111,9 @@ module _ {w : Bench} {s l m : List ℕ} {now : Bench} {i at : ℕ} (f : Feeding 
   -- by the act that the byte asks for, or where it asks for none
   module _ (h : i < length s) (step : Step) (e : step ≡ after_spot now.place (get_or s i 0)) where
     pub feeding_act :
-        {o : List ℕ} {r : Rig} {end most : ℕ}
+        {o : List ℕ} {r : Rig} {end : ℕ}
         → r ≡ rig_after now.rig step.act
-        → Prints m o at end most (printed now.rig step.act)
+        → Wrote m o at end (printed now.rig step.act)
         → Feeding w s l o (record { rig = r; place = step.place }) (i + 1) end
     feeding_act {r = r} k p = feeding_more h (turn_bench now _ step e r k) (turn_wrote now _ step e p)
 
@@ -129,18 +123,19 @@ module _ {w : Bench} {s l m : List ℕ} {now : Bench} {i at : ℕ} (f : Feeding 
         → Feeding w s l m (record { rig = now.rig; place = step.place }) (i + 1) at
     feeding_wait d k = feeding_more h (wait_bench now _ step e d) (wait_wrote now _ step e d m at k)
 
-  feeding_all : length s ≤ i → Feeds w s l m (record { bench = now; taken = i; end = at })
+  pub feeding_all : length s ≤ i → Feeds w s l m (record { bench = now; taken = i; end = at })
   feeding_all h =
       record { within = f.within; some = λ (z : 0 < length s). omega arith; stands = f.stands; wrote = f.wrote }
 
 -- where two ways meet, with what each of them left
 pub feeding_as :
-    {w : Bench} {s l o o' : List ℕ} {a a' : Acted} {q : Spot} {i : ℕ}
+    {w : Bench} {s l o o' : List ℕ} {g g' : Rig} {q : Spot} {i k k' : ℕ}
     → o' ≡ o
-    → a' ≡ a
-    → Feeding w s l o (record { rig = a.rig; place = q }) i a.end
-    → Feeding w s l o' (record { rig = a'.rig; place = q }) i a'.end
-feeding_as x y f = rw (x, y) f
+    → g' ≡ g
+    → k' ≡ k
+    → Feeding w s l o (record { rig = g; place = q }) i k
+    → Feeding w s l o' (record { rig = g'; place = q }) i k'
+feeding_as x y z f = rw (x, y, z) f
 
 -- a buffer with room for one byte's lines is full only after a byte
 some_taken :
@@ -149,7 +144,7 @@ unfolding says
 some_taken w s l m now zero at f r h = let z : at ≡ 0 = f.wrote.ends in absurd (omega (arith, f.same))
 some_taken w s l m now (suc i) at f r h = omega arith
 
-feeding_full :
+pub feeding_full :
     {w : Bench} {s l m : List ℕ} {now : Bench} {i at : ℕ}
     → Feeding w s l m now i at
     → 69 ≤ length l
@@ -162,28 +157,3 @@ feeding_full {w} {s} {l} {m} {now} {i} {at} f r h =
       stands = f.stands;
       wrote = f.wrote;
     }
-
--- ---- the loop goes on where there is a byte more and room for what it prints
-module _ (s m : List ℕ) (i at : ℕ) where
-  abbrev goes_on : Bool
-  goes_on = ltb i (length s) && leb 69 (length m - at)
-
-  pub byte_more : goes_on ≡ true → i < length s
-  byte_more h = ltb-true i (length s) (and_left (ltb i (length s)) (leb 69 (length m - at)) h)
-
-  pub room_more : goes_on ≡ true → 69 ≤ length m - at
-  room_more h = leb-true 69 (length m - at) (and_right (ltb i (length s)) (leb 69 (length m - at)) h)
-
-  pub feeding_ends :
-      {w : Bench} {l : List ℕ} {now : Bench}
-      → Feeding w s l m now i at
-      → 69 ≤ length l
-      → goes_on ≡ false
-      → Feeds w s l m (record { bench = now; taken = i; end = at })
-  feeding_ends {w} {l} {now} f r = go (ltb i (length s)) refl
-    where
-      go :
-          (t : Bool) → ltb i (length s) ≡ t → (t && leb 69 (length m - at)) ≡ false
-          → Feeds w s l m (record { bench = now; taken = i; end = at })
-      go true e h = feeding_full f r (leb-false 69 (length m - at) h)
-      go false e h = feeding_all f (ltb-false i (length s) e)

@@ -1,7 +1,6 @@
 -- What is printed, a line at a time.   (01, Marked figures: the bench program)
-use Rattle.std.specs.Prelude.{ℕ, zero, suc, ◌+◌, ◌/◌, ◌%◌, ◌-◌, ◌≤◌, List, [], ◌∷◌, ◌++◌, ltb, take, drop, if◌then◌else◌}
+use Rattle.std.specs.Prelude.{ℕ, zero, suc, ◌+◌, ◌/◌, ◌%◌, ◌-◌, List, [], ◌∷◌, ◌++◌, ltb, take, drop, if◌then◌else◌}
 use Rattle.base.specs.Text.{text}
-use Rattle.base.specs.Wrote.{Wrote}
 
 -- `!`
 abbrev pub complaint_line : List ℕ
@@ -24,8 +23,3 @@ decimal n = decimal_by 20 n
 unfoldable pub counts_line : ℕ → ℕ → ℕ → List ℕ
 counts_line n infused withdrawn =
     (text "T " ++ decimal n) ++ (text " I " ++ decimal infused) ++ (text " W " ++ decimal withdrawn) ++ (10 ∷ [])
-
--- a run of bytes was written, and it has no more than `most`
-pub record Prints (before after : List ℕ) (at end most : ℕ) (run : List ℕ) : Type 0 where
-  pub wrote : Wrote before after at end run
-  pub few : end ≤ at + most

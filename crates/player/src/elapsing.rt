@@ -2,7 +2,7 @@
 ghost use Rattle.std.specs.Prelude.{◌≡◌, ◌-◌, ◌≤◌, if◌then◌else◌};
 ghost use Rattle.player.specs.Elapsing.{Roomy, Further, portion, call_for, begun, elapsed};
 
-use pump::{Pump, Refusal, Report};
+use pump::{Pump, Report};
 
 // The most ticks of one call.
 const MILLION: u32 = 1_000_000;
@@ -27,6 +27,7 @@ pub fn elapse(pump: Pump, n: u32) -> Elapsed
     ensures { result ≡ elapsed n pump }
 {
     let mut elapsed = Elapsed::new(pump, n).onward();
+    // no index loop: a step is what a call leaves of the ticks
     while 0 < elapsed.left {
         elapsed = elapsed.onward();
     }
@@ -37,10 +38,7 @@ pub fn elapse(pump: Pump, n: u32) -> Elapsed
 pub fn portion(left: u32) -> u32
     ensures { result ≡ portion left }
 {
-    if left < MILLION {
-        return left;
-    }
-    MILLION
+    left.min(MILLION)
 }
 
 // What a call leaves of the ticks. A refused one is the last: the next would be refused too.
@@ -60,12 +58,12 @@ impl Elapsed {
     {
         let output = pump.device.core.output;
         Elapsed {
-            pump: pump,
+            pump,
             left: n,
             infused: 0,
             withdrawn: 0,
             beeps: 0,
-            output: output,
+            output,
             refused: false,
             sent: false,
         }
@@ -86,13 +84,11 @@ impl Elapsed {
         requires { Roomy self × (report.ticks ≤ self.left) }
         ensures { Further self report result }
     {
-        let refusal = report.refusal;
-        let refused = refusal.is_refused();
+        let refused = report.refusal.is_some();
         let left = left_after(self.left, refused, report.ticks);
-        let pump = report.pump;
         Elapsed {
-            pump: pump,
-            left: left,
+            pump: report.pump,
+            left,
             infused: self.infused + report.infused as u64,
             withdrawn: self.withdrawn + report.withdrawn as u64,
             beeps: self.beeps + report.beeps as u64,

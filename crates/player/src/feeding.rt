@@ -3,7 +3,9 @@ ghost use Rattle.std.specs.Prelude.{◌≡◌, ◌+◌, ◌≤◌, length};
 ghost use Rattle.base.specs.Wrote.{Wrote};
 ghost use Rattle.player.specs.Scripts.{fresh_bench, closed, Feeds};
 
-use crate::rigs::{Acted, ROOM, Rig};
+use crate::printing::ROOM;
+use crate::rigs::Rig;
+use base::copy;
 use script::Spot;
 
 // The rig, and where in a line the input stands.
@@ -26,12 +28,9 @@ impl Fed {
         ensures { result ≡ record { bench = record { rig = rig; place = place }; taken = taken; end = end } }
     {
         Fed {
-            bench: Bench {
-                rig: rig,
-                place: place,
-            },
-            taken: taken,
-            end: end,
+            bench: Bench { rig, place },
+            taken,
+            end,
         }
     }
 }
@@ -52,20 +51,24 @@ impl Bench {
         requires { 69 ≤ length out.old }
         ensures { Feeds self s.now out.old out.new result }
     {
-        let rig = self.rig;
-        let mut acted = Acted { rig: rig, end: 0 };
+        let mut rig = self.rig;
         let mut place = self.place;
-        let mut i = 0;
-        while (i < s.len()) & (ROOM <= out.len() - acted.end) {
-            let step = place.after(s[i]);
-            let act = step.act;
-            place = step.place;
-            if act.is_deed() {
-                acted = acted.rig.act(act, out, acted.end);
+        let mut taken = 0;
+        let mut end = 0;
+        for b in s {
+            if out.len() - end < ROOM {
+                break;
             }
-            i += 1;
+            let step = place.after(*b);
+            place = step.place;
+            if step.act.is_deed() {
+                let acted = rig.act(step.act);
+                rig = acted.rig;
+                end = copy(out, end, acted.lines.as_slice());
+            }
+            taken += 1;
         }
-        Fed::new(acted.rig, place, i, acted.end)
+        Fed::new(rig, place, taken, end)
     }
 
     // The end of the input.
@@ -73,8 +76,7 @@ impl Bench {
         requires { 69 ≤ length out.old }
         ensures { Wrote out.old out.new 0 result (closed self) }
     {
-        let place = self.place;
-        let acted = self.rig.act(place.input_end(), out, 0);
-        acted.end
+        let acted = self.rig.act(self.place.input_end());
+        copy(out, 0, acted.lines.as_slice())
     }
 }

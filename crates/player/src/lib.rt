@@ -16,5 +16,5 @@ mod rigs;
 
 pub use elapsing::{Elapsed, elapse, portion};
 pub use feeding::{Bench, Fed};
-pub use printing::{complaint, labelled};
+pub use printing::{Label, Lines, complaint, labelled};
 pub use rigs::{Acted, Rig};

@@ -1,110 +1,102 @@
-// What is printed, a line at a time. Each function writes from `at` on and answers the next place.
+// What is printed, a line at a time. Lines are values, and stand in a buffer only where the input is fed.
 ghost use Rattle.std.specs.Prelude.{◌≡◌, ◌⊎◌, [], ◌∷◌, ◌++◌, ◌+◌, ◌≤◌, ◌<◌, eqb, length, if◌then◌else◌};
-ghost use Rattle.base.specs.Wrote.{Wrote};
-ghost use Rattle.player.specs.Printing.{Prints, complaint_line, counts_line, decimal, unframed};
+ghost use Rattle.player.specs.Printing.{complaint_line, counts_line, decimal, unframed};
 
-use base::{copy, put};
+use arrayvec::ArrayVec;
 
-// What a byte call has to say: that it was refused, or its answer of `n` bytes if there is one.
-pub fn answer_line(refused: bool, n: usize, answer: &[u8], out: &mut [u8], at: usize) -> usize
-    requires { (at + 23 ≤ length out.old) × (length answer.now ≡ 24) × ((n ≡ 0) ⊎ ((2 ≤ n) × (n ≤ 24))) }
-    ensures { Prints out.old out.new at result 23
-        (if refused then complaint_line else if eqb n 0 then [] else unframed n answer.now ++ 10 ∷ []) }
+// The most that one act prints, the counts of ticks. The line of an answer has at most 23 bytes, and no act prints more than two
+// of these and an empty one.
+pub const ROOM: usize = 69;
+
+// What an act prints: the bytes lie in the value itself.
+pub type Lines = ArrayVec<u8, ROOM>;
+
+// A letter, a blank, a count of at most 20 digits, and the byte that stands behind it.
+pub type Label = ArrayVec<u8, 23>;
+
+// What a byte call has to say: that it was refused, or what lies between STX and ETX of its answer, if there is one.
+pub fn answer_line(refused: bool, answer: &[u8]) -> Lines
+    requires { (length answer.now ≡ 0) ⊎ ((2 ≤ length answer.now) × (length answer.now ≤ 24)) }
+    ensures { result.items ≡ (if refused
+        then complaint_line
+        else if eqb (length answer.now) 0 then [] else unframed (length answer.now) answer.now ++ 10 ∷ []) }
 {
     if refused {
-        return complaint(out, at);
+        return complaint();
     }
-    if n == 0 {
-        return at;
+    match answer {
+        [_, text @ .., _] => joined(text, b"\n"),
+        _ => Lines::new(),
     }
-    framed_line(answer, n, out, at)
 }
 
 // The counts of ticks, unless they were refused.
-pub fn ticks_line(
-    refused: bool,
-    n: u64,
-    infused: u64,
-    withdrawn: u64,
-    out: &mut [u8],
-    at: usize,
-) -> usize
-    requires { at + 69 ≤ length out.old }
-    ensures { Prints out.old out.new at result 69 (if refused then complaint_line else counts_line n infused withdrawn) }
+pub fn ticks_line(refused: bool, n: u64, infused: u64, withdrawn: u64) -> Lines
+    ensures { result.items ≡ (if refused then complaint_line else counts_line n infused withdrawn) }
 {
     if refused {
-        return complaint(out, at);
+        return complaint();
     }
-    counts(n, infused, withdrawn, out, at)
+    counts(n, infused, withdrawn)
 }
 
 // A call that prints nothing unless it was refused.
-pub fn refusal_line(refused: bool, out: &mut [u8], at: usize) -> usize
-    requires { at + 2 ≤ length out.old }
-    ensures { Prints out.old out.new at result 2 (if refused then complaint_line else []) }
+pub fn refusal_line(refused: bool) -> Lines
+    ensures { result.items ≡ (if refused then complaint_line else []) }
 {
-    if refused {
-        return complaint(out, at);
-    }
-    at
+    if refused { complaint() } else { Lines::new() }
 }
 
 // An empty line behind a text that had no answer at all.
-pub fn silence_line(replied: bool, out: &mut [u8], at: usize) -> usize
-    requires { at + 1 ≤ length out.old }
-    ensures { Prints out.old out.new at result 1 (if replied then [] else 10 ∷ []) }
+pub fn silence_line(replied: bool) -> Lines
+    ensures { result.items ≡ (if replied then [] else 10 ∷ []) }
 {
     if replied {
-        return at;
+        Lines::new()
+    } else {
+        joined(b"\n", b"")
     }
-    put(out, at, b'\n')
 }
 
 // No such item, or a refused call.
-pub fn complaint(out: &mut [u8], at: usize) -> usize
-    requires { at + 2 ≤ length out.old }
-    ensures { Wrote out.old out.new at result complaint_line }
+pub fn complaint() -> Lines
+    ensures { result.items ≡ complaint_line }
 {
-    copy(out, at, b"!\n")
+    joined(b"!\n", b"")
 }
 
-// What lies between STX and ETX of an answer of `n` bytes, as a line of its own.
-fn framed_line(answer: &[u8], n: usize, out: &mut [u8], at: usize) -> usize
-    requires { (2 ≤ n) × (n ≤ length answer.now) × (at + n ≤ length out.old + 1) }
-    ensures { Wrote out.old out.new at result (unframed n answer.now ++ 10 ∷ []) }
+// T, ticks, I, steps infused, W, steps withdrawn.
+fn counts(n: u64, infused: u64, withdrawn: u64) -> Lines
+    ensures { result.items ≡ counts_line n infused withdrawn }
 {
-    let etx = n - 1;
-    let end = copy(out, at, &answer[1..etx]);
-    put(out, end, b'\n')
+    let ticks = labelled(b'T', n, b' ');
+    let steps = labelled(b'I', infused, b' ');
+    let back = labelled(b'W', withdrawn, b'\n');
+    let first = joined(ticks.as_slice(), steps.as_slice());
+    joined(first.as_slice(), back.as_slice())
 }
 
-// T, ticks, I, steps infused, W, steps withdrawn: three counts of at most 20 digits each, and 9 bytes between them.
-fn counts(n: u64, infused: u64, withdrawn: u64, out: &mut [u8], at: usize) -> usize
-    requires { at + 69 ≤ length out.old }
-    ensures { Prints out.old out.new at result 69 (counts_line n infused withdrawn) }
+// A letter, a count in decimal digits without zeros in front, and the byte that stands behind it.
+pub fn labelled(letter: u8, n: u64, behind: u8) -> Label
+    ensures { result.items ≡ letter ∷ 32 ∷ (decimal n ++ behind ∷ []) }
 {
-    let a = labelled(b'T', n, b' ', out, at);
-    let b = labelled(b'I', infused, b' ', out, a);
-    labelled(b'W', withdrawn, b'\n', out, b)
+    let mut digits = [0u8; 20];
+    let k = io::decimal(n, &mut digits);
+    let mut label = Label::new();
+    label.push(letter);
+    label.push(b' ');
+    label.try_extend_from_slice(&digits[..k]).unwrap();
+    label.push(behind);
+    label
 }
 
-// A letter, a count, and the byte that stands behind it.
-pub fn labelled(letter: u8, n: u64, behind: u8, out: &mut [u8], at: usize) -> usize
-    requires { at + 23 ≤ length out.old }
-    ensures { Prints out.old out.new at result 23 (letter ∷ 32 ∷ (decimal n ++ behind ∷ [])) }
+// Two runs of bytes, one behind the other.
+pub fn joined(first: &[u8], second: &[u8]) -> Lines
+    requires { length first.now + length second.now ≤ 69 }
+    ensures { result.items ≡ first.now ++ second.now }
 {
-    let a = put(out, at, letter);
-    let b = put(out, a, b' ');
-    let c = count(n, out, b);
-    put(out, c, behind)
-}
-
-// A count in decimal digits, without zeros in front.
-fn count(n: u64, out: &mut [u8], at: usize) -> usize
-    requires { at + 20 ≤ length out.old }
-    ensures { Prints out.old out.new at result 20 (decimal n) }
-{
-    let mut text = [0u8; 20];
-    let k = io::decimal(n, &mut text);
-    copy(out, at, &text[..k])
+    let mut lines = Lines::new();
+    lines.try_extend_from_slice(first).unwrap();
+    lines.try_extend_from_slice(second).unwrap();
+    lines
 }

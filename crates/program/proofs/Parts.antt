@@ -1,12 +1,14 @@
 -- A sound phase, ledger, visit, stopped pump, program under way and core taken apart into their clauses, and put together again: the one
 -- place where soundness is.
 -- Assumes nothing.
+use Rattle.std.specs.Prelude.{Option, Some, None, is_none}
 use Prim.Native.Nat.{ℕ, ◌+◌, ◌≤◌, ◌<◌}
 use mathlib.Core.Path.{◌≡◌, refl, ap}
 use mathlib.Core.Logic.{◌⊎◌, inl, inr, ⊎_elim}
 use mathlib.Core.Bool.{Bool, true, false, ◌&&◌, ◌||◌}
 use lib.Dec.{leb, ltb, eqb}
 use borrow.Author.Tests.{leb-true, le-leb, ltb-true, lt-ltb, eqb-true, eq-eqb}
+use Rattle.std.specs.Prelude.{Option, Some, None, is_none}
 use Rattle.base.specs.All.{all}
 use Rattle.base.proofs.Choices.{and_left, and_right, false_true}
 use Rattle.base.proofs.Each.{each, all_of, and_both, either}
@@ -21,18 +23,15 @@ use Rattle.words.specs.Phases.{is_sound_phase}
 use Rattle.words.specs.declared.phases.Phase.{Phase}
 use Rattle.loops.specs.Loops.{is_sound_loops}
 use Rattle.dispense.specs.Ledgers.{most_total, total_of, is_sound_ledger}
-use Rattle.dispense.specs.Rates.{thousandths, is_no_rate, is_usable_rate}
+use Rattle.dispense.specs.Rates.{thousandths, is_usable_rate}
 use Rattle.dispense.specs.declared.ledgers.Ledger.{Ledger}
 use Rattle.dispense.specs.declared.rates.Rate.{Rate}
-use Rattle.dispense.specs.declared.rates.Rate.TheVariants.{NoRate, Current}
 use Rattle.dispense.specs.declared.visits.Visit.{Visit}
 use Rattle.program.specs.Runs.{is_entering}
-use Rattle.program.specs.Sound.{is_sound_trap, visit_tests, is_sound_visit, is_sound_work, is_no_trap, idle_tests, is_sound_mode}
+use Rattle.program.specs.Sound.{is_sound_trap, visit_tests, is_sound_visit, is_sound_work, idle_tests, is_sound_mode}
 use Rattle.program.specs.Sound.{run_tests, is_sound_run, core_tests, is_sound_core}
 use Rattle.program.specs.declared.state.Core.{Core}
 use Rattle.program.specs.declared.state.Run.{Run}
-use Rattle.program.specs.declared.state.Trap.{Trap}
-use Rattle.program.specs.declared.state.Trap.TheVariants.{NoTrap, Armed}
 use Rattle.program.specs.declared.state.Work.{Work}
 use Rattle.program.specs.declared.state.Work.TheVariants.{Entering, Visiting, Pausing, Waiting}
 
@@ -70,7 +69,7 @@ unfolding is_sound_ledger
 ledger_sound l i w = and_both _ _ (le-leb _ _ i) (le-leb _ _ w)
 
 -- ---- a visit: a continuous one has no target and counts no step
-pub record VisitClauses (d : Syringe) (here : Phase) (rate : Rate) (v : Visit) : Type 0 where
+pub record VisitClauses (d : Syringe) (here : Phase) (rate : Option Rate) (v : Visit) : Type 0 where
   pub store_below : v.store < step_threshold d
   pub aimed : v.target ≡ step_target d here.volume
   pub fewer_given : (v.given < v.target) ⊎ (here.volume ≡ 0) × (v.given ≡ 0)
@@ -81,7 +80,7 @@ or_right : (t u : Bool) → u ≡ true → (t || u) ≡ true
 or_right true u e = refl
 or_right false u e = e
 
-module _ (d : Syringe) (here : Phase) (rate : Rate) (v : Visit) where
+module _ (d : Syringe) (here : Phase) (rate : Option Rate) (v : Visit) where
   pub visit_clauses : is_sound_visit d here rate v ≡ true → VisitClauses d here rate v
   unfolding is_sound_visit
   visit_clauses e =
@@ -116,9 +115,9 @@ module _ (d : Syringe) (here : Phase) (rate : Rate) (v : Visit) where
 -- ---- a stopped pump
 pub record IdleClauses (r : Run) : Type 0 where
   pub no_work : r.place.work ≡ Entering
-  pub no_trap : r.trap ≡ NoTrap
+  pub no_trap : r.trap ≡ None
   pub no_loop : r.loops.count ≡ 0
-  pub no_rate : r.rate ≡ NoRate
+  pub no_rate : r.rate ≡ None
 
 entering_of : (w : Work) → is_entering w ≡ true → w ≡ Entering
 entering_of Entering h = refl
@@ -126,13 +125,13 @@ entering_of (Visiting v) h = false_true h
 entering_of (Pausing left) h = false_true h
 entering_of Waiting h = false_true h
 
-no_trap_of : (t : Trap) → is_no_trap t ≡ true → t ≡ NoTrap
-no_trap_of NoTrap h = refl
-no_trap_of (Armed n) h = false_true h
+no_trap_of : (t : Option ℕ) → is_none t ≡ true → t ≡ None
+no_trap_of None h = refl
+no_trap_of (Some n) h = false_true h
 
-no_rate_of : (r : Rate) → is_no_rate r ≡ true → r ≡ NoRate
-no_rate_of NoRate h = refl
-no_rate_of (Current unit r) h = false_true h
+no_rate_of : (r : Option Rate) → is_none r ≡ true → r ≡ None
+no_rate_of None h = refl
+no_rate_of (Some r) h = false_true h
 
 module _ (r : Run) where
   pub idle_clauses : all (idle_tests r) ≡ true → IdleClauses r
@@ -148,7 +147,7 @@ module _ (r : Run) where
   pub idle_sound : IdleClauses r → all (idle_tests r) ≡ true
   idle_sound c =
       all_of (idle_tests r)
-      (ap is_entering c.no_work, (ap is_no_trap c.no_trap, (eq-eqb r.loops.count 0 c.no_loop, (ap is_no_rate c.no_rate, tt))))
+      (ap is_entering c.no_work, (ap (is_none {T = ℕ}) c.no_trap, (eq-eqb r.loops.count 0 c.no_loop, (ap (is_none {T = Rate}) c.no_rate, tt))))
 
 -- ---- the program under way, but for what it is doing
 pub record RunClauses (phases : ℕ) (r : Run) : Type 0 where

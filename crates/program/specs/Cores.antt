@@ -1,5 +1,5 @@
 -- The core: its parts replaced; power-up and *RESET.   (01, Commands)
-use Rattle.std.specs.Prelude.{ℕ, Bool, true, false}
+use Rattle.std.specs.Prelude.{ℕ, Bool, true, false, Some, None}
 use Rattle.drive.specs.declared.syringe.Syringe.{Syringe}
 use Rattle.words.specs.declared.answers.Alarm.TheVariants.{PowerUp}
 use Rattle.dispense.specs.Ledgers as ledgers
@@ -7,7 +7,6 @@ use Rattle.dispense.specs.declared.ledgers.Ledger.{Ledger}
 use Rattle.program.specs.Runs.{fresh_at}
 use Rattle.program.specs.declared.state.Core.{Core}
 use Rattle.program.specs.declared.state.Mode.TheVariants.{Stopped}
-use Rattle.program.specs.declared.state.Pending.TheVariants.{NoAlarm, Raised}
 use Rattle.program.specs.declared.state.Pins.{Pins}
 use Rattle.program.specs.declared.state.Run.{Run}
 
@@ -36,7 +35,7 @@ abbrev pub power_up_core : Core
 power_up_core =
     record {
       ledger = ledgers.fresh;
-      run = fresh_at 1 (Stopped (Raised PowerUp));
+      run = fresh_at 1 (Stopped (Some PowerUp));
       syringe = record { diameter = 10_000 };
       pins = record { two = true; four = true; six = true };
       output = false;
@@ -45,4 +44,4 @@ power_up_core =
 
 -- ---- *RESET: the power-up state, but no alarm, pins as they are
 abbrev pub reset_core : Core → Core
-reset_core s = with_pins (with_run power_up_core (fresh_at 1 (Stopped NoAlarm))) s.pins
+reset_core s = with_pins (with_run power_up_core (fresh_at 1 (Stopped None))) s.pins

@@ -1,7 +1,7 @@
 -- When the core is sound, clause by clause, for a number of phases and with the current phase in hand. By the
 -- types of the state hold: at most one of visit, timed pause and trigger wait is under way; the store is 0 outside a visit; an alarm is
 -- pending only in a stopped pump.   (01, Calls)
-use Rattle.std.specs.Prelude.{ℕ, ◌+◌, ◌≡◌, Bool, true, false, ◌&&◌, ◌||◌, List, [], ◌∷◌, ltb, leb, eqb}
+use Rattle.std.specs.Prelude.{ℕ, ◌+◌, ◌≡◌, Bool, true, ◌&&◌, ◌||◌, List, [], ◌∷◌, ltb, leb, eqb, Option, Some, None, is_none, false}
 use Rattle.base.specs.All.{all}
 use Rattle.decimal.specs.Writable.{is_writable}
 use Rattle.drive.specs.Rates.{most_rate}
@@ -13,7 +13,7 @@ use Rattle.words.specs.declared.functions.Function.TheVariants as f
 use Rattle.words.specs.declared.phases.Phase.{Phase}
 use Rattle.loops.specs.Loops.{is_sound_loops}
 use Rattle.dispense.specs.Ledgers.{is_sound_ledger}
-use Rattle.dispense.specs.Rates.{thousandths, is_no_rate, is_usable_rate}
+use Rattle.dispense.specs.Rates.{thousandths, is_usable_rate}
 use Rattle.dispense.specs.declared.rates.Rate.{Rate}
 use Rattle.dispense.specs.declared.visits.Visit.{Visit}
 use Rattle.program.specs.Runs.{is_entering}
@@ -21,20 +21,18 @@ use Rattle.program.specs.declared.state.Core.{Core}
 use Rattle.program.specs.declared.state.Mode.{Mode}
 use Rattle.program.specs.declared.state.Mode.TheVariants.{Stopped, Paused, Running}
 use Rattle.program.specs.declared.state.Run.{Run}
-use Rattle.program.specs.declared.state.Trap.{Trap}
-use Rattle.program.specs.declared.state.Trap.TheVariants.{NoTrap, Armed}
 use Rattle.program.specs.declared.state.Work.{Work}
 use Rattle.program.specs.declared.state.Work.TheVariants.{Entering, Visiting, Pausing, Waiting}
 
 -- ---- every field is in its range
 -- a trap jumps to a phase
-abbrev pub is_sound_trap : ℕ → Trap → Bool
-is_sound_trap phases NoTrap = true
-is_sound_trap phases (Armed n) = is_phase phases n
+abbrev pub is_sound_trap : ℕ → Option ℕ → Bool
+is_sound_trap phases None = true
+is_sound_trap phases (Some n) = is_phase phases n
 
 -- ---- a visit: the store below the threshold, the target that phase, volume and diameter give, the steps given below it (a continuous
 -- visit has no target and counts none), a usable rate, in a RAT, INC or DEC phase
-abbrev pub visit_tests : Syringe → Phase → Rate → Visit → List Bool
+abbrev pub visit_tests : Syringe → Phase → Option Rate → Visit → List Bool
 visit_tests y p rate v =
     ltb v.store (step_threshold y)
     ∷ eqb v.target (step_target y p.volume)
@@ -43,23 +41,19 @@ visit_tests y p rate v =
     ∷ is_rate_phase p.function
     ∷ []
 
-unfoldable pub is_sound_visit : Syringe → Phase → Rate → Visit → Bool
+unfoldable pub is_sound_visit : Syringe → Phase → Option Rate → Visit → Bool
 is_sound_visit y p rate v = all (visit_tests y p rate v)
 
 -- ---- a timed pause stands in a PAS phase above 0 with 1 to its full number of ticks left; a trigger wait in PAS 0
-abbrev pub is_sound_work : Syringe → Phase → Rate → Work → Bool
+abbrev pub is_sound_work : Syringe → Phase → Option Rate → Work → Bool
 is_sound_work y p rate Entering = true
 is_sound_work y p rate (Visiting v) = is_sound_visit y p rate v
 is_sound_work y p rate (Pausing left) = leb 1 left && leb left (pause_ticks p.function)
 is_sound_work y p rate Waiting = is_wait p.function
 
 -- ---- a stopped pump has none of these three and no trap, loop or current rate
-abbrev pub is_no_trap : Trap → Bool
-is_no_trap NoTrap = true
-is_no_trap (Armed n) = false
-
 abbrev pub idle_tests : Run → List Bool
-idle_tests r = is_entering r.place.work ∷ is_no_trap r.trap ∷ eqb r.loops.count 0 ∷ is_no_rate r.rate ∷ []
+idle_tests r = is_entering r.place.work ∷ is_none r.trap ∷ eqb r.loops.count 0 ∷ is_none r.rate ∷ []
 
 abbrev pub is_sound_mode : Run → Mode → Bool
 is_sound_mode r (Stopped alarm) = all (idle_tests r)

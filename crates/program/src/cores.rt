@@ -2,7 +2,7 @@
 ghost use Rattle.std.specs.Prelude.{◌≡◌};
 ghost use Rattle.program.specs.Cores.{power_up_core, reset_core, with_run};
 
-use crate::state::{Core, Mode, Pending, Pins, Run};
+use crate::state::{Core, Mode, Pins, Run};
 use dispense::Ledger;
 use drive::Syringe;
 use words::Alarm;
@@ -14,7 +14,7 @@ impl Core {
     {
         Core {
             ledger: Ledger::fresh(),
-            run: Run::fresh_at(1, Mode::Stopped(Pending::Raised(Alarm::PowerUp))),
+            run: Run::fresh_at(1, Mode::Stopped(Some(Alarm::PowerUp))),
             syringe: Syringe { diameter: 10_000 },
             pins: Pins {
                 two: true,
@@ -30,11 +30,11 @@ impl Core {
     pub fn reset(self) -> Core
         ensures { result ≡ reset_core self }
     {
-        let pins = self.pins;
-        let mut core = Core::power_up();
-        core.run = Run::fresh_at(1, Mode::Stopped(Pending::NoAlarm));
-        core.pins = pins;
-        core
+        Core {
+            run: Run::fresh_at(1, Mode::Stopped(None)),
+            pins: self.pins,
+            ..Core::power_up()
+        }
     }
 
     pub fn with_run(mut self, run: Run) -> Core

@@ -2,7 +2,7 @@
 ghost use Rattle.std.specs.Prelude.{◌≡◌, ◌≤◌};
 ghost use Rattle.program.specs.Edges.{pin_two, foot_switch, pin_four, spring, pin_six};
 
-use crate::state::{Core, Pending, Run, Trap};
+use crate::state::{Core, Run};
 
 impl Core {
     // Pin 2, the foot switch.
@@ -18,7 +18,8 @@ impl Core {
         self
     }
 
-    // Pin 4, the event.
+    // Pin 4, the event. It shares with pin 2 what an edge is, and neither the level kept nor what follows: one function for both would take
+    // both as closures, and read no plainer.
     pub fn pin_four(mut self, level: bool) -> Core
         ensures { result ≡ pin_four self level }
     {
@@ -40,29 +41,25 @@ impl Core {
 }
 
 impl Run {
-    // Pin 2 falls: as RUN, or as STP in I, W and T. With an alarm pending only the level is kept.
+    // Pin 2 falls: as RUN, or as STP in I, W and T; what does not apply changes nothing. With an alarm pending only the level is kept.
     fn foot_switch(self) -> Run
         requires { self.place.current ≤ 100 }
         ensures { result ≡ foot_switch self }
     {
-        let alarm = self.pending();
-        match alarm {
-            Pending::Raised(_) => self,
-            Pending::NoAlarm => {
-                if self.is_moving() {
-                    return self.stop_now().run;
-                }
-                self.run_on().run
-            }
+        if self.pending().is_some() {
+            return self;
         }
+        if self.is_moving() {
+            return self.stop_now().unwrap_or(self);
+        }
+        self.run_on().unwrap_or(self)
     }
 
     // Pin 4 falls: while operating it fires a set trap.
     fn spring(self) -> Run
         ensures { result ≡ spring self }
     {
-        let trap = self.trap;
-        let Trap::Armed(n) = trap else {
+        let Some(n) = self.trap else {
             return self;
         };
         if self.is_operating() {

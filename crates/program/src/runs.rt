@@ -3,7 +3,7 @@ ghost use Rattle.std.specs.Prelude.{◌≡◌, ◌≤◌};
 ghost use Rattle.program.specs.Runs.{with_place, with_rate, with_loops, with_trap, with_mode, fresh_at, start, stop, raise, pause};
 ghost use Rattle.program.specs.Runs.{resume, doing, go_to, go_on, fire, is_operating, is_moving, pending, clear_alarm};
 
-use crate::state::{Mode, Pending, Place, Run, Trap, Work};
+use crate::state::{Mode, Place, Run, Work};
 use dispense::Rate;
 use loops::Loops;
 use words::Alarm;
@@ -16,12 +16,12 @@ impl Run {
         Run {
             place: Place {
                 work: Work::Entering,
-                current: current,
+                current,
             },
-            rate: Rate::NoRate,
+            rate: None,
             loops: Loops::none(),
-            mode: mode,
-            trap: Trap::NoTrap,
+            mode,
+            trap: None,
         }
     }
 
@@ -36,14 +36,14 @@ impl Run {
     pub fn stop(self) -> Run
         ensures { result ≡ stop self }
     {
-        Run::fresh_at(self.place.current, Mode::Stopped(Pending::NoAlarm))
+        Run::fresh_at(self.place.current, Mode::Stopped(None))
     }
 
     // An alarm stops the pump.
     pub fn raise(self, alarm: Alarm) -> Run
         ensures { result ≡ raise self alarm }
     {
-        Run::fresh_at(self.place.current, Mode::Stopped(Pending::Raised(alarm)))
+        Run::fresh_at(self.place.current, Mode::Stopped(Some(alarm)))
     }
 
     pub fn pause(self) -> Run
@@ -62,11 +62,7 @@ impl Run {
     pub fn doing(self, work: Work) -> Run
         ensures { result ≡ doing self work }
     {
-        let n = self.place.current;
-        self.with_place(Place {
-            work: work,
-            current: n,
-        })
+        self.with_place(Place { work, ..self.place })
     }
 
     // Phase n is the current one, not entered.
@@ -91,7 +87,7 @@ impl Run {
     pub fn fire(self, n: u8) -> Run
         ensures { result ≡ fire self n }
     {
-        let sprung = self.with_trap(Trap::NoTrap);
+        let sprung = self.with_trap(None);
         sprung.with_loops(Loops::none()).go_to(n)
     }
 
@@ -99,31 +95,22 @@ impl Run {
     pub fn is_operating(self) -> bool
         ensures { result ≡ is_operating self }
     {
-        let mode = self.mode;
-        match mode {
-            Mode::Stopped(_) => false,
-            Mode::Paused => false,
-            Mode::Running => true,
-        }
+        matches!(self.mode, Mode::Running)
     }
 
     // I, W and T: these alone move with ticks.
     pub fn is_moving(self) -> bool
         ensures { result ≡ is_moving self }
     {
-        let place = self.place;
-        let work = place.work;
-        self.is_operating() & !work.is_waiting()
+        self.is_operating() & !self.place.work.is_waiting()
     }
 
-    pub fn pending(self) -> Pending
+    pub fn pending(self) -> Option<Alarm>
         ensures { result ≡ pending self }
     {
-        let mode = self.mode;
-        match mode {
+        match self.mode {
             Mode::Stopped(alarm) => alarm,
-            Mode::Paused => Pending::NoAlarm,
-            Mode::Running => Pending::NoAlarm,
+            Mode::Paused | Mode::Running => None,
         }
     }
 
@@ -131,11 +118,9 @@ impl Run {
     pub fn clear_alarm(self) -> Run
         ensures { result ≡ clear_alarm self }
     {
-        let mode = self.mode;
-        match mode {
-            Mode::Stopped(_) => self.with_mode(Mode::Stopped(Pending::NoAlarm)),
-            Mode::Paused => self,
-            Mode::Running => self,
+        match self.mode {
+            Mode::Stopped(_) => self.with_mode(Mode::Stopped(None)),
+            Mode::Paused | Mode::Running => self,
         }
     }
 
@@ -153,42 +138,24 @@ impl Run {
         self
     }
 
-    // A field that is an enum cannot be stored to: the struct is made anew.
-    pub fn with_rate(self, rate: Rate) -> Run
+    pub fn with_rate(mut self, rate: Option<Rate>) -> Run
         ensures { result ≡ with_rate self rate }
     {
-        let mode = self.mode;
-        let trap = self.trap;
-        self.with_enums(rate, mode, trap)
+        self.rate = rate;
+        self
     }
 
-    pub fn with_trap(self, trap: Trap) -> Run
+    pub fn with_trap(mut self, trap: Option<u8>) -> Run
         ensures { result ≡ with_trap self trap }
     {
-        let rate = self.rate;
-        let mode = self.mode;
-        self.with_enums(rate, mode, trap)
+        self.trap = trap;
+        self
     }
 
-    fn with_mode(self, mode: Mode) -> Run
+    fn with_mode(mut self, mode: Mode) -> Run
         ensures { result ≡ with_mode self mode }
     {
-        let rate = self.rate;
-        let trap = self.trap;
-        self.with_enums(rate, mode, trap)
-    }
-
-    fn with_enums(self, rate: Rate, mode: Mode, trap: Trap) -> Run
-        ensures { result ≡ with_mode (with_trap (with_rate self rate) trap) mode }
-    {
-        let place = self.place;
-        let loops = self.loops;
-        Run {
-            place: place,
-            rate: rate,
-            loops: loops,
-            mode: mode,
-            trap: trap,
-        }
+        self.mode = mode;
+        self
     }
 }

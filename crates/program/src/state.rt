@@ -13,41 +13,30 @@ pub enum Work {
     Waiting,
 }
 
-// Where the program stands.
+// Where the program stands. That the current phase is a small number is a clause (`place.current ≤ 100`): a pump takes any state that is
+// handed in, and refuses one whose phase is not (01, Calls), so that the type has to hold it.
 #[derive(Clone, Copy)]
 pub struct Place {
     pub work: Work,
     pub current: u8,
 }
 
-// The phase that a set trap jumps to.
-#[derive(Clone, Copy)]
-pub enum Trap {
-    NoTrap,
-    Armed(u8),
-}
-
-#[derive(Clone, Copy)]
-pub enum Pending {
-    NoAlarm,
-    Raised(Alarm),
-}
-
 // An alarm is pending only in a stopped pump.
 #[derive(Clone, Copy)]
 pub enum Mode {
-    Stopped(Pending),
+    Stopped(Option<Alarm>),
     Paused,
     Running,
 }
 
 // The program under way: starting, stopping and alarms replace it whole. The fields stand in an order in which the compiler takes a run apart
-// well: in others, a run of ticks was measured to take up to five times as long (docs/DECISIONS.md).
+// well: in others, a run of ticks was measured to take up to five times as long (docs/DECISIONS.md). `trap` holds the phase that a set trap
+// jumps to.
 #[derive(Clone, Copy)]
 pub struct Run {
     pub mode: Mode,
-    pub rate: Rate,
-    pub trap: Trap,
+    pub rate: Option<Rate>,
+    pub trap: Option<u8>,
     pub place: Place,
     pub loops: Loops,
 }

@@ -11,13 +11,10 @@ impl Run {
     pub fn status(self, direction: Direction) -> Status
         ensures { result ≡ status_run self direction }
     {
-        let place = self.place;
-        let mode = self.mode;
-        let work = place.work;
-        match mode {
+        match self.mode {
             Mode::Stopped(_) => Status::Stopped,
             Mode::Paused => Status::Paused,
-            Mode::Running => match work {
+            Mode::Running => match self.place.work {
                 Work::Entering => pumping(direction),
                 Work::Visiting(_) => pumping(direction),
                 Work::Pausing(_) => Status::TimedPause,

@@ -8,33 +8,18 @@ impl Work {
     pub fn is_entering(self) -> bool
         ensures { result ≡ is_entering self }
     {
-        match self {
-            Work::Entering => true,
-            Work::Visiting(_) => false,
-            Work::Pausing(_) => false,
-            Work::Waiting => false,
-        }
+        matches!(self, Work::Entering)
     }
 
     pub fn is_visiting(self) -> bool
         ensures { result ≡ is_visiting self }
     {
-        match self {
-            Work::Entering => false,
-            Work::Visiting(_) => true,
-            Work::Pausing(_) => false,
-            Work::Waiting => false,
-        }
+        matches!(self, Work::Visiting(_))
     }
 
     pub fn is_waiting(self) -> bool
         ensures { result ≡ is_waiting self }
     {
-        match self {
-            Work::Entering => false,
-            Work::Visiting(_) => false,
-            Work::Pausing(_) => false,
-            Work::Waiting => true,
-        }
+        matches!(self, Work::Waiting)
     }
 }

@@ -1,7 +1,7 @@
 -- What ticks do beside the work of the phases: a pending alarm stays as it is; before the last of some ticks no alarm is sent; and one tick
 -- more is the device one tick further on.
 -- Assumes nothing.
-use Rattle.std.specs.Prelude.{if◌then◌else◌}
+use Rattle.std.specs.Prelude.{if◌then◌else◌, Option, Some, None, is_some}
 use Prim.Native.Nat.{ℕ, zero, suc, ◌<◌}
 use mathlib.Core.Path.{◌≡◌, refl, sym, ap, ◌∙◌}
 use mathlib.Core.Bool.{Bool, true, false, ◌&&◌, not}
@@ -19,47 +19,44 @@ use Rattle.program.specs.Runs.{pending, pending_by}
 use Rattle.program.specs.declared.state.Core.{Core}
 use Rattle.program.specs.declared.state.Mode.{Mode}
 use Rattle.program.specs.declared.state.Mode.TheVariants.{Stopped, Paused, Running}
-use Rattle.program.specs.declared.state.Pending.{Pending}
-use Rattle.program.specs.declared.state.Pending.TheVariants.{NoAlarm, Raised}
 use Rattle.tick.specs.Ticks.{tick, tick_by, silent}
 use Rattle.leap.specs.Leaps.{ticks}
 use Rattle.link.specs.Link.{is_safe, safe_in, left_in, ticks_left, fires, link_tick, link_ticks}
-use Rattle.link.specs.declared.Mode.{Mode as LinkMode}
-use Rattle.link.specs.declared.Mode.TheVariants as mode
+use Rattle.link.specs.declared.Safety.{Safety}
 use Rattle.link.specs.declared.Link.{Link}
 use Rattle.link.proofs.Theorems.{ticks_basic, ticks_left_lem, ticks_safe}
-use Rattle.pump.specs.Elapsing.{new_alarm, has_alarm, is_alarmed, time_out, alarm_said, after_tick, sent, is_due, reach, is_watched}
+use Rattle.pump.specs.Elapsing.{new_alarm, is_alarmed, time_out, alarm_said, after_tick, sent, is_due, reach, is_watched}
 use Rattle.pump.specs.Elapsing.{after_ticks, sent_in}
 use Rattle.pump.specs.Device.{with_core, with_link}
 use Rattle.pump.specs.declared.device.Device.{Device}
 use Rattle.pump.proofs.Holding.{not_false, not_true}
 
 -- ---- a pending alarm stays, and nothing moves with it
-raised_mode : (m : Mode) (a : Alarm) → pending_by m ≡ Raised a → m ≡ Stopped (Raised a)
+raised_mode : (m : Mode) (a : Alarm) → pending_by m ≡ Some a → m ≡ Stopped (Some a)
 raised_mode (Stopped x) a e = ap Stopped e
-raised_mode Paused a e = false_true (ap has_alarm e)
-raised_mode Running a e = false_true (ap has_alarm e)
+raised_mode Paused a e = false_true (ap (is_some {T = Alarm}) e)
+raised_mode Running a e = false_true (ap (is_some {T = Alarm}) e)
 
-pub raised_still : (s : Core) (here : Phase) (a : Alarm) → pending s.run ≡ Raised a → tick s here ≡ silent s
+pub raised_still : (s : Core) (here : Phase) (a : Alarm) → pending s.run ≡ Some a → tick s here ≡ silent s
 unfolding tick
 raised_still s here a e = ap (tick_by s here) (raised_mode s.run.mode a e)
 
 -- so where none is pending behind a tick none was before it
 pub calm_before :
     (look : ℕ → Phase) (s : Core) (i : ℕ)
-    → pending (ticks look (suc i) s).core.run ≡ NoAlarm
-    → pending (ticks look i s).core.run ≡ NoAlarm
+    → pending (ticks look (suc i) s).core.run ≡ None
+    → pending (ticks look i s).core.run ≡ None
 unfolding ticks
 calm_before look s i e = go (pending (ticks look i s).core.run) refl
   where
-    go : (x : Pending) → pending (ticks look i s).core.run ≡ x → pending (ticks look i s).core.run ≡ NoAlarm
-    go NoAlarm k = k
-    go (Raised a) k =
+    go : (x : Option Alarm) → pending (ticks look i s).core.run ≡ x → pending (ticks look i s).core.run ≡ None
+    go None k = k
+    go (Some a) k =
         let still = raised_still (ticks look i s).core (look (ticks look i s).core.run.place.current) a k in
         sym (ap (λ (m : _). pending m.core.run) still) ∙ e
 
 pub raised_stays :
-    (look : ℕ → Phase) (s : Core) (a : Alarm) → pending s.run ≡ Raised a → (i : ℕ) → pending (ticks look i s).core.run ≡ Raised a
+    (look : ℕ → Phase) (s : Core) (a : Alarm) → pending s.run ≡ Some a → (i : ℕ) → pending (ticks look i s).core.run ≡ Some a
 unfolding ticks
 raised_stays look s a e zero = e
 raised_stays look s a e (suc i) =
@@ -92,13 +89,13 @@ pub due_at : (n t : ℕ) → 0 < n → n ≡ t → (ltb 0 n && eqb n t) ≡ true
 due_at zero t h e = absurd (omega arith)
 due_at (suc n) t h e = and_both (ltb 0 (suc n)) (eqb (suc n) t) (lt-ltb 0 (suc n) h) (eq-eqb (suc n) t e)
 
-pub not_raised : (x : Pending) → not (has_alarm x) ≡ true → x ≡ NoAlarm
-not_raised NoAlarm e = refl
-not_raised (Raised a) e = false_true e
+pub not_raised : (x : Option Alarm) → not (is_some x) ≡ true → x ≡ None
+not_raised None e = refl
+not_raised (Some a) e = false_true e
 
 -- ---- some ticks in which no alarm was sent: the limit lies ahead, and where an alarm would be sent none is pending
 pub record Quiet (look : ℕ → Phase) (v : Device) (i : ℕ) : Type 0 where
-  pub calm : is_watched v ≡ true → pending (ticks look i v.core).core.run ≡ NoAlarm
+  pub calm : is_watched v ≡ true → pending (ticks look i v.core).core.run ≡ None
   pub early : 0 < ticks_left v.link → i < ticks_left v.link
 
 -- the device after them
@@ -125,14 +122,14 @@ module _ (look : ℕ → Phase) (v : Device) where
     no_due : is_due i v.link ≡ false
     no_due = not_due i (ticks_left v.link) q.early
 
-    new_none : is_safe v.link ≡ true → new_alarm (pending v.core.run) (pending (core i).run) ≡ NoAlarm
+    new_none : is_safe v.link ≡ true → new_alarm (pending v.core.run) (pending (core i).run) ≡ None
     new_none safe = go (pending v.core.run) refl
       where
-        go : (x : Pending) → pending v.core.run ≡ x → new_alarm (pending v.core.run) (pending (core i).run) ≡ NoAlarm
-        go NoAlarm k =
-            ap (λ (x : Pending). new_alarm x (pending (core i).run)) k
-            ∙ q.calm (ap (λ (x : Bool). x && not (is_alarmed v.core)) safe ∙ ap (λ (x : Pending). not (has_alarm x)) k)
-        go (Raised a) k = ap (λ (x : Pending). new_alarm x (pending (core i).run)) k
+        go : (x : Option Alarm) → pending v.core.run ≡ x → new_alarm (pending v.core.run) (pending (core i).run) ≡ None
+        go None k =
+            ap (λ (x : Option Alarm). new_alarm x (pending (core i).run)) k
+            ∙ q.calm (ap (λ (x : Bool). x && not (is_alarmed v.core)) safe ∙ ap (λ (x : Option Alarm). not (is_some x)) k)
+        go (Some a) k = ap (λ (x : Option Alarm). new_alarm x (pending (core i).run)) k
 
     pub quiet_sent : sent_in i v (core i) ≡ said.Nothing
     unfolding sent_in
@@ -142,7 +139,7 @@ module _ (look : ℕ → Phase) (v : Device) where
             (t : Bool)
             → is_safe v.link ≡ t
             → (if is_safe v.link
-            then alarm_said (if is_due i v.link then Raised TimeOut else new_alarm (pending v.core.run) (pending (core i).run))
+            then alarm_said (if is_due i v.link then Some TimeOut else new_alarm (pending v.core.run) (pending (core i).run))
             else said.Nothing) ≡ said.Nothing
         go true e = simp (e, no_due, new_none e)
         go false e = simp e
@@ -159,21 +156,21 @@ module _ (look : ℕ → Phase) (v : Device) where
     unfolding after_tick after_ticks link_ticks
     next_device s = ap (λ (t : Bool). record { core = if t then time_out s else s; line = v.line; link = link_tick (link_ticks i v.link) }) due_next
 
-    new_next : (x : Pending) → is_safe v.link ≡ true → new_alarm (pending (core i).run) x ≡ new_alarm (pending v.core.run) x
+    new_next : (x : Option Alarm) → is_safe v.link ≡ true → new_alarm (pending (core i).run) x ≡ new_alarm (pending v.core.run) x
     new_next x safe = go (pending v.core.run) refl
       where
-        go : (y : Pending) → pending v.core.run ≡ y → new_alarm (pending (core i).run) x ≡ new_alarm (pending v.core.run) x
-        go NoAlarm k =
-            ap (λ (z : Pending). new_alarm z x)
-            (q.calm (ap (λ (z : Bool). z && not (is_alarmed v.core)) safe ∙ ap (λ (z : Pending). not (has_alarm z)) k) ∙ sym k)
-        go (Raised a) k = ap (λ (z : Pending). new_alarm z x) (raised_stays look v.core a k i ∙ sym k)
+        go : (y : Option Alarm) → pending v.core.run ≡ y → new_alarm (pending (core i).run) x ≡ new_alarm (pending v.core.run) x
+        go None k =
+            ap (λ (z : Option Alarm). new_alarm z x)
+            (q.calm (ap (λ (z : Bool). z && not (is_alarmed v.core)) safe ∙ ap (λ (z : Option Alarm). not (is_some z)) k) ∙ sym k)
+        go (Some a) k = ap (λ (z : Option Alarm). new_alarm z x) (raised_stays look v.core a k i ∙ sym k)
 
     pub next_sent : (s : Core) → sent (resting look v i) s ≡ sent_in (suc i) v s
     unfolding sent sent_in
     next_sent s = go (is_safe v.link) refl
       where
-        told : Bool → Pending → Said
-        told t x = alarm_said (if t then Raised TimeOut else x)
+        told : Bool → Option Alarm → Said
+        told t x = alarm_said (if t then Some TimeOut else x)
 
         go :
             (t : Bool)
@@ -201,21 +198,21 @@ module _ (v : Device) (n : ℕ) (s : Core) (safe : is_safe v.link ≡ true) wher
   pub new_sent :
       (a : Alarm)
       → is_due n v.link ≡ false
-      → pending v.core.run ≡ NoAlarm
-      → pending s.run ≡ Raised a
+      → pending v.core.run ≡ None
+      → pending s.run ≡ Some a
       → sent_in n v s ≡ said.Alarm a
   unfolding sent_in
   new_sent a e none k =
-      (simp (safe, e)) ∙ ap (λ (x : Pending). alarm_said (new_alarm x (pending s.run))) none ∙ ap alarm_said k
+      (simp (safe, e)) ∙ ap (λ (x : Option Alarm). alarm_said (new_alarm x (pending s.run))) none ∙ ap alarm_said k
 
 -- no timer runs in Basic mode
 pub timer_safe : (l : Link) → 0 < ticks_left l → is_safe l ≡ true
 unfolding is_safe ticks_left
-timer_safe l h = go l.mode h
+timer_safe l h = go l.safety h
   where
-    go : (m : LinkMode) → 0 < left_in m → safe_in m ≡ true
-    go mode.Basic k = absurd (omega arith)
-    go (mode.Safe x) k = refl
+    go : (m : Option Safety) → 0 < left_in m → safe_in m ≡ true
+    go None k = absurd (omega arith)
+    go (Some x) k = refl
 
 -- ---- the same by what the code tests
 module _ (n left : ℕ) (l : Link) (is : left ≡ ticks_left l) where
@@ -246,14 +243,14 @@ module _ (v : Device) (n : ℕ) (s : Core) where
         pub sent_none : a ≡ true → said.Nothing ≡ sent_in n v s
         sent_none h = go (pending v.core.run) refl
           where
-            go : (x : Pending) → pending v.core.run ≡ x → said.Nothing ≡ sent_in n v s
-            go NoAlarm z = false_true (sym (ap has_alarm z) ∙ sym alarmed ∙ h)
-            go (Raised w) z = sym (at_end_lem ∙ ap (λ (x : Pending). alarm_said (new_alarm x (pending s.run))) z)
+            go : (x : Option Alarm) → pending v.core.run ≡ x → said.Nothing ≡ sent_in n v s
+            go None z = false_true (sym (ap (is_some {T = Alarm}) z) ∙ sym alarmed ∙ h)
+            go (Some w) z = sym (at_end_lem ∙ ap (λ (x : Option Alarm). alarm_said (new_alarm x (pending s.run))) z)
 
-        pub sent_new : (x : Pending) (r : Said) → a ≡ false → x ≡ pending s.run → r ≡ alarm_said x → r ≡ sent_in n v s
+        pub sent_new : (x : Option Alarm) (r : Said) → a ≡ false → x ≡ pending s.run → r ≡ alarm_said x → r ≡ sent_in n v s
         sent_new x r h y q =
             let none = not_raised (pending v.core.run) (ap not (sym alarmed ∙ h)) in
-            q ∙ ap alarm_said y ∙ sym (at_end_lem ∙ ap (λ (z : Pending). alarm_said (new_alarm z (pending s.run))) none)
+            q ∙ ap alarm_said y ∙ sym (at_end_lem ∙ ap (λ (z : Option Alarm). alarm_said (new_alarm z (pending s.run))) none)
 
   module _ (r : Device) where
     after_none : n ≡ 0 → r ≡ with_core v s → r ≡ after_ticks n v s

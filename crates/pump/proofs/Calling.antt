@@ -1,6 +1,6 @@
 -- The calls by what was tested and what was called: the pin and the byte, and what each call refuses.
 -- Assumes nothing.
-use Rattle.std.specs.Prelude.{if◌then◌else◌}
+use Rattle.std.specs.Prelude.{if◌then◌else◌, Option, None, Some, not}
 use Prim.Native.Nat.{ℕ, ◌+◌, ◌≤◌, ◌<◌}
 use mathlib.Core.Path.{◌≡◌, refl, sym, ap, ◌∙◌, subst}
 use mathlib.Core.Logic.{◌⊎◌, inl, inr, ⊎_elim}
@@ -47,7 +47,7 @@ use Rattle.pump.specs.declared.holder.Pump.{Pump}
 use Rattle.pump.specs.declared.many.Going.{Going}
 use Rattle.pump.specs.declared.reports.Refusal.{Refusal}
 use Rattle.pump.specs.declared.reports.Report.{Report}
-use Rattle.pump.specs.declared.reports.Refusal.TheVariants.{Accepted, ShortBuffer, NoPin, NoLevel, Unsound, TooManyTicks}
+use Rattle.pump.specs.declared.reports.Refusal.TheVariants.{ShortBuffer, NoPin, NoLevel, Unsound, TooManyTicks}
 use Rattle.pump.proofs.Kept.{pump_core, pump_link}
 
 -- ---- what a sound pump lends to the rules
@@ -98,54 +98,54 @@ module _ (sound : Bool) (pin level : ℕ) where
       is_pin_lem : is_pin pin ≡ true
       is_pin_lem = ⊎_elim (λ k. rw k refl) (⊎_elim (λ k. rw k refl) (λ k. rw k refl)) h
 
-      pub no_level : 1 < level → NoLevel ≡ of_pin sound pin level
+      pub no_level : 1 < level → Some NoLevel ≡ of_pin sound pin level
       unfolding of_pin
       no_level k = sym (simp (e, is_pin_lem, lt-ltb 1 level k))
 
-      pub pin_accepted : level ≤ 1 → Accepted ≡ of_pin sound pin level
+      pub pin_accepted : level ≤ 1 → None ≡ of_pin sound pin level
       unfolding of_pin
       pin_accepted k = sym (simp (e, is_pin_lem, le-ltb 1 level k))
 
-    pub no_pin : ((pin ≡ 2) ⊎ (pin ≡ 4) ⊎ (pin ≡ 6) → ⊥) → NoPin ≡ of_pin sound pin level
+    pub no_pin : ((pin ≡ 2) ⊎ (pin ≡ 4) ⊎ (pin ≡ 6) → ⊥) → Some NoPin ≡ of_pin sound pin level
     unfolding of_pin
     no_pin n =
         sym (simp (e, ne_eqb pin 2 (λ k. n (inl k)), ne_eqb pin 4 (λ k. n (inr (inl k))), ne_eqb pin 6 (λ k. n (inr (inr k)))))
 
-  pub pin_unsound : sound ≡ false → Unsound ≡ of_pin sound pin level
+  pub pin_unsound : sound ≡ false → Some Unsound ≡ of_pin sound pin level
   unfolding of_pin
   pin_unsound e = sym (simp e)
 
 pub ruleset pins = (no_level, pin_accepted, no_pin, pin_unsound)
 
 module _ (sound : Bool) (size : ℕ) where
-  pub short : sound ≡ true → size < room → ShortBuffer ≡ of_byte sound size
+  pub short : sound ≡ true → size < room → Some ShortBuffer ≡ of_byte sound size
   unfolding of_byte
   short e k = sym (simp (e, lt-ltb size room k))
 
-  pub byte_accepted : sound ≡ true → room ≤ size → Accepted ≡ of_byte sound size
+  pub byte_accepted : sound ≡ true → room ≤ size → None ≡ of_byte sound size
   unfolding of_byte
   byte_accepted e k = sym (simp (e, le-ltb size room k))
 
-  pub byte_unsound : sound ≡ false → Unsound ≡ of_byte sound size
+  pub byte_unsound : sound ≡ false → Some Unsound ≡ of_byte sound size
   unfolding of_byte
   byte_unsound e = sym (simp e)
 
 pub ruleset bytes = (short, byte_accepted, byte_unsound)
 
 module _ (sound : Bool) (size n : ℕ) where
-  pub ticks_short : sound ≡ true → size < room → ShortBuffer ≡ of_ticks sound size n
+  pub ticks_short : sound ≡ true → size < room → Some ShortBuffer ≡ of_ticks sound size n
   unfolding of_ticks
   ticks_short e k = sym (simp (e, lt-ltb size room k))
 
-  pub too_many : sound ≡ true → room ≤ size → most_ticks < n → TooManyTicks ≡ of_ticks sound size n
+  pub too_many : sound ≡ true → room ≤ size → most_ticks < n → Some TooManyTicks ≡ of_ticks sound size n
   unfolding of_ticks
   too_many e h k = sym (simp (e, le-ltb size room h, lt-ltb most_ticks n k))
 
-  pub ticks_accepted : sound ≡ true → room ≤ size → n ≤ most_ticks → Accepted ≡ of_ticks sound size n
+  pub ticks_accepted : sound ≡ true → room ≤ size → n ≤ most_ticks → None ≡ of_ticks sound size n
   unfolding of_ticks
   ticks_accepted e h k = sym (simp (e, le-ltb size room h, le-ltb most_ticks n k))
 
-  pub ticks_unsound : sound ≡ false → Unsound ≡ of_ticks sound size n
+  pub ticks_unsound : sound ≡ false → Some Unsound ≡ of_ticks sound size n
   unfolding of_ticks
   ticks_unsound e = sym (simp e)
 
@@ -164,7 +164,7 @@ byte_sound false size h = false_true (sym h)
 
 -- ---- ticks that are not refused: the state is sound, the buffer has room, and they are not too many
 pub record Taken (sound : Bool) (size n : ℕ) : Type 0 where
-  pub accepted : of_ticks sound size n ≡ Accepted
+  pub accepted : of_ticks sound size n ≡ None
   pub of_sound : sound ≡ true
   pub roomy : room ≤ size
   pub few : n ≤ most_ticks
@@ -178,7 +178,7 @@ many_taken true size n h = by (ltb size room) refl (ltb most_ticks n) refl h
         → ltb size room ≡ t
         → (u : Bool)
         → ltb most_ticks n ≡ u
-        → is_refused (if t then ShortBuffer else if u then TooManyTicks else Accepted) ≡ false
+        → is_refused (if t then Some ShortBuffer else if u then Some TooManyTicks else None) ≡ false
         → Taken true size n
     by true k u m z = false_true (sym z)
     by false k true m z = false_true (sym z)
@@ -188,15 +188,14 @@ many_taken false size n h = false_true (sym h)
 
 -- ---- a byte that is not refused finds a pump that the rules can rely on
 pub byte_ready :
-    (p : Pump) (u : Bool) (x : Refusal) (t : Bool) (size : ℕ)
+    (p : Pump) (u : Bool) (x : Option Refusal) (size : ℕ)
     → u ≡ is_sound_pump p
     → x ≡ of_byte u size
-    → t ≡ is_refused x
     → phase_count p ≤ 99
-    → t ≡ false
+    → is_refused x ≡ false
     → Handy p × (is_sound_link p.device.link ≡ true)
-byte_ready p u x t size is k tested few h =
-    let sound = sym is ∙ byte_sound u size (ap is_refused (sym k) ∙ sym tested ∙ h) in
+byte_ready p u x size is k few h =
+    let sound = sym is ∙ byte_sound u size (ap is_refused (sym k) ∙ h) in
     (handy p few sound, pump_link p sound)
 
 -- where nothing is said nothing is written
@@ -217,13 +216,16 @@ silent_buffer f buffer = by (leb room (length buffer))
     by false = refl
 
 -- ---- what is not refused is accepted; a byte that brings nothing to its end has nothing to be heard
-none_refused : (x : Refusal) → is_refused x ≡ false → x ≡ Accepted
-none_refused Accepted e = refl
-none_refused ShortBuffer e = false_true (sym e)
-none_refused NoPin e = false_true (sym e)
-none_refused NoLevel e = false_true (sym e)
-none_refused Unsound e = false_true (sym e)
-none_refused TooManyTicks e = false_true (sym e)
+none_refused : (x : Option Refusal) → is_refused x ≡ false → x ≡ None
+none_refused None e = refl
+none_refused (Some x) e = false_true (sym e)
+
+module _ (x : Option Refusal) (t : Bool) (e : is_refused x ≡ not t) where
+  pub was_none : t ≡ true → is_refused x ≡ false
+  was_none h = e ∙ ap not h
+
+  pub was_some : t ≡ false → is_refused x ≡ true
+  was_some h = e ∙ ap not h
 
 none_brought : (x : Brought) → is_whole x ≡ false → x ≡ brought.Nothing
 none_brought brought.Nothing e = refl
@@ -231,46 +233,46 @@ none_brought brought.Wrong e = false_true (sym e)
 none_brought (brought.Text asked) e = false_true (sym e)
 
 -- ---- the pin and the byte: refused, or done
-module _ (p : Pump) (u : Bool) (s : u ≡ is_sound_pump p) (x : Refusal) (t : Bool) (tested : t ≡ is_refused x) where
+module _ (p : Pump) (u : Bool) (s : u ≡ is_sound_pump p) (x : Option Refusal) where
   module _ (pin level : ℕ) (k : x ≡ of_pin u pin level) where
     pin_refusal : x ≡ of_pin (is_sound_pump p) pin level
     pin_refusal = k ∙ ap (λ (w : Bool). of_pin w pin level) s
 
-    pin_tested : is_refused (of_pin (is_sound_pump p) pin level) ≡ t
-    pin_tested = ap is_refused (sym pin_refusal) ∙ sym tested
+    pin_tested : is_refused (of_pin (is_sound_pump p) pin level) ≡ is_refused x
+    pin_tested = ap is_refused (sym pin_refusal)
 
-    pub pin_handy : phase_count p ≤ 99 → t ≡ false → Handy p
+    pub pin_handy : phase_count p ≤ 99 → is_refused x ≡ false → Handy p
     pin_handy few h = handy p few (pin_sound (is_sound_pump p) pin level (pin_tested ∙ h))
 
-    pub pin_refused : t ≡ true → unstepped p 0 x ≡ pin_call p pin level
+    pub pin_refused : is_refused x ≡ true → unstepped p 0 x ≡ pin_call p pin level
     unfolding pin_call
     pin_refused h = ap (unstepped p 0) pin_refusal ∙ sym (simp (pin_tested ∙ h))
 
-    pub pin_done : (v : Device) → t ≡ false → v ≡ edge p.device pin (eqb level 1) → unstepped (with_device p v) 0 x ≡ pin_call p pin level
+    pub pin_done : (v : Device) → is_refused x ≡ false → v ≡ edge p.device pin (eqb level 1) → unstepped (with_device p v) 0 x ≡ pin_call p pin level
     unfolding pin_call
     pin_done v h e =
         ap (λ (w : Device). unstepped (with_device p w) 0 x) e
-        ∙ ap (unstepped (with_device p (edge p.device pin (eqb level 1))) 0) (none_refused x (sym tested ∙ h))
+        ∙ ap (unstepped (with_device p (edge p.device pin (eqb level 1))) 0) (none_refused x h)
         ∙ sym (simp (pin_tested ∙ h))
 
   module _ (b : ℕ) (buffer : List ℕ) (k : x ≡ of_byte u (length buffer)) where
     byte_refusal : x ≡ of_byte (is_sound_pump p) (length buffer)
     byte_refusal = k ∙ ap (λ (w : Bool). of_byte w (length buffer)) s
 
-    byte_tested : is_refused (of_byte (is_sound_pump p) (length buffer)) ≡ t
-    byte_tested = ap is_refused (sym byte_refusal) ∙ sym tested
+    byte_tested : is_refused (of_byte (is_sound_pump p) (length buffer)) ≡ is_refused x
+    byte_tested = ap is_refused (sym byte_refusal)
 
     abbrev byte_done : Outcome
     byte_done = record { report = byte_report p b buffer; buffer = byte_buffer p b buffer }
 
-    pub byte_refused : t ≡ true → record { report = unstepped p 0 x; buffer = buffer } ≡ byte_done
+    pub byte_refused : is_refused x ≡ true → record { report = unstepped p 0 x; buffer = buffer } ≡ byte_done
     unfolding byte_report byte_buffer
     byte_refused h =
-        ap (λ (y : Refusal). record { report = unstepped p 0 y; buffer = buffer }) byte_refusal ∙ sym (simp (byte_tested ∙ h))
+        ap (λ (y : Option Refusal). record { report = unstepped p 0 y; buffer = buffer }) byte_refusal ∙ sym (simp (byte_tested ∙ h))
 
-    module _ (h : t ≡ false) (a : Arrival) (e : a ≡ arrival p.device b) (w : Bool) (is : w ≡ is_whole a.brought) where
-      accepted : x ≡ Accepted
-      accepted = none_refused x (sym tested ∙ h)
+    module _ (h : is_refused x ≡ false) (a : Arrival) (e : a ≡ arrival p.device b) (w : Bool) (is : w ≡ is_whole a.brought) where
+      accepted : x ≡ None
+      accepted = none_refused x h
 
       heard_as : heard_in p a ≡ hear p b
       unfolding hear
@@ -317,18 +319,15 @@ module _ (p : Pump) (u : Bool) (s : u ≡ is_sound_pump p) (x : Refusal) (t : Bo
 
 -- what the call hands back, by its parts
 pub byte_parts :
-    (r : Report) (q : Pump) (x : Refusal) (o : Outcome) (ps : List Phase) (v : Device) (n : ℕ) (out ms : List ℕ) (qs : List Phase) (w : Device) (m : ℕ)
+    (r : Report) (q : Pump) (x : Option Refusal) (o : Outcome) (n : ℕ) (out : List ℕ) (p : Pump) (m : ℕ) (ms : List ℕ)
     → r ≡ unstepped q n x
-    → q ≡ record { phases = ps; device = v }
-    → ps ≡ qs
-    → v ≡ w
+    → q ≡ p
     → n ≡ m
     → out ≡ ms
-    → record { report = unstepped (record { phases = qs; device = w }) m x; buffer = ms } ≡ o
+    → record { report = unstepped p m x; buffer = ms } ≡ o
     → (r ≡ o.report) × (out ≡ o.buffer)
-byte_parts r q x o ps v n out ms qs w m e f a b l k z =
-    let told =
-    e ∙ ap (λ (y : Pump). unstepped y n x) f ∙ (λ i. unstepped (record { phases = a i; device = b i }) (l i) x) in
+byte_parts r q x o n out p m ms e a l k z =
+    let told = e ∙ (λ i. unstepped (a i) (l i) x) in
     (told ∙ ap (λ (y : Outcome). y.report) z, k ∙ ap (λ (y : Outcome). y.buffer) z)
 
 pub frame_safe : (l : Link) (t : Bool) → t ≡ is_safe l → t ≡ true → Packet ≡ frame_in l
@@ -356,7 +355,7 @@ listened_as p asked n hand next current h held after x full a b d g k q e f = rw
 -- ---- ticks that are over: what they send is written
 module _ (p : Pump) (g : Going) (n : ℕ) (buffer : List ℕ) (x : Said) (told : x ≡ sent_in n p.device g.core) where
   pub gone_as :
-      (refusal : Refusal) (size : ℕ) (v : Device)
+      (refusal : Option Refusal) (size : ℕ) (v : Device)
       → size ≡ length_in Packet 0 x buffer
       → v ≡ after_ticks n p.device g.core
       → record {

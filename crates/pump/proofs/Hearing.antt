@@ -4,6 +4,7 @@ use Prim.Native.Nat.{ℕ, ◌≤◌, ◌<◌}
 use mathlib.Core.Path.{◌≡◌, sym, ap, ◌∙◌}
 use mathlib.Core.Bool.{Bool}
 use borrow.Author.Tests.{ne_eqb, le-leb, lt-leb}
+use Rattle.std.specs.Prelude.{Option, Some, None}
 use Rattle.drive.specs.declared.directions.Direction.{Direction}
 use Rattle.words.specs.declared.answers.Alarm.{Alarm}
 use Rattle.words.specs.declared.answers.Reply.{Reply}
@@ -21,8 +22,6 @@ use Rattle.program.specs.Cores.{with_run}
 use Rattle.program.specs.Edges.{pin_two, pin_four, pin_six}
 use Rattle.program.specs.Runs.{pending, clear_alarm}
 use Rattle.program.specs.declared.state.Core.{Core}
-use Rattle.program.specs.declared.state.Pending.{Pending}
-use Rattle.program.specs.declared.state.Pending.TheVariants.{NoAlarm, Raised}
 use Rattle.program.specs.declared.state.Run.{Run}
 use Rattle.command.specs.Obeying.{obey}
 use Rattle.command.specs.declared.obeying.Edit.{Edit}
@@ -32,7 +31,6 @@ use Rattle.link.specs.Link.{limited_to, limit_of}
 use Rattle.link.specs.declared.Link.{Link}
 use Rattle.pump.specs.Device as d
 use Rattle.pump.specs.Device.{with_core, with_link, edge_of, hear_text, ours, ours_by, met, replied, set_limit, link_behind, obeyed, obeyed_with}
-use Rattle.pump.specs.Elapsing.{alarm_said}
 use Rattle.pump.specs.declared.device.Device.{Device}
 use Rattle.pump.specs.declared.device.Heard.{Heard}
 use Rattle.pump.specs.declared.device.Told.{Told}
@@ -63,10 +61,10 @@ module _ (v : Device) (hand : Phase) (next : Function) (phases : ℕ) where
     heard_nothing n = sym (simp (ne_eqb asked.address 0 n))
 
   -- ---- a text of ours
-  module _ (request : Request) (alarm : Pending) (e : alarm ≡ pending v.core.run) where
+  module _ (request : Request) (alarm : Option Alarm) (e : alarm ≡ pending v.core.run) where
     pub heard_alarm :
         (a : Alarm) (run : Run) (core : Core)
-        → alarm ≡ Raised a
+        → alarm ≡ Some a
         → run ≡ clear_alarm v.core.run
         → core ≡ with_run v.core run
         → record { device = with_core v core; edit = Keep; told = told.Alarm a } ≡ ours v request hand next phases
@@ -75,7 +73,7 @@ module _ (v : Device) (hand : Phase) (next : Function) (phases : ℕ) where
         ap (λ (x : Core). record { device = with_core v x; edit = Keep; told = told.Alarm a }) (i ∙ ap (with_run v.core) h)
         ∙ ap (ours_by v request hand next phases) (sym k ∙ e)
 
-    pub heard_request : (r : Heard) → alarm ≡ NoAlarm → r ≡ met v request hand next phases → r ≡ ours v request hand next phases
+    pub heard_request : (r : Heard) → alarm ≡ None → r ≡ met v request hand next phases → r ≡ ours v request hand next phases
     unfolding ours
     heard_request r k q = q ∙ ap (ours_by v request hand next phases) (sym k ∙ e)
 
@@ -129,7 +127,3 @@ pub said_status : (r : Reply) (x y : Status) → x ≡ y → s.Answer x r ≡ s.
 said_status r x y e = ap (λ (k : Status). s.Answer k r) e
 
 pub ruleset sayings = (said_by, said_status)
-
--- ---- the alarm that is sent
-pub alarm_by : (x k : Pending) (r : Said) → x ≡ k → r ≡ alarm_said k → r ≡ alarm_said x
-alarm_by x k r e q = q ∙ ap alarm_said (sym e)

@@ -3,7 +3,6 @@
 use Prim.Native.Nat.{ℕ}
 use mathlib.Core.Path.{◌≡◌, refl, sym, ap, ◌∙◌}
 use mathlib.Core.Bool.{Bool, true, false, not, ◌&&◌}
-use lib.Dec.{eqb}
 use lib.ListN.{set, replicate}
 use Rattle.words.specs.Phases.{power_up}
 use Rattle.words.specs.declared.phases.Phase.{Phase}
@@ -20,18 +19,17 @@ and_comm true false = refl
 and_comm false true = refl
 and_comm false false = refl
 
--- ---- the whole tested: the device, and the phases down to the first
+-- ---- the whole tested: the device with its current phase, and the phases
 pub whole_sound :
-    {count : ℕ} (p : Pump) (i : ℕ) (fit : Bool)
+    {count : ℕ} (p : Pump) (here : Phase) (t u : Bool)
     → phase_count p ≡ count
-    → eqb i 0 ≡ is_sound_phases (phase_count p) p.phases
-    → fit ≡ is_sound_device count p.device (here_of p)
-    → (fit && eqb i 0) ≡ is_sound_pump p
+    → here ≡ here_of p
+    → t ≡ is_sound_device count p.device here
+    → u ≡ is_sound_phases count p.phases
+    → (t && u) ≡ is_sound_pump p
 unfolding is_sound_pump
-whole_sound p i fit full e v =
-    ap (λ (t : Bool). t && eqb i 0) (v ∙ sym (ap (λ (k : ℕ). is_sound_device k p.device (here_of p)) full))
-    ∙ ap (λ (t : Bool). is_sound_device (phase_count p) p.device (here_of p) && t) e
-    ∙ and_comm (is_sound_device (phase_count p) p.device (here_of p)) (is_sound_phases (phase_count p) p.phases)
+whole_sound p here t u full e a b =
+    rw (a, b, e, sym full) (and_comm (is_sound_device (phase_count p) p.device (here_of p)) (is_sound_phases (phase_count p) p.phases))
 
 -- ---- power-up
 pub fresh_as :

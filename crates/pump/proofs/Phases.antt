@@ -1,34 +1,24 @@
 -- The table of phases, however many they are: the phase of a number, another phase put there, and every phase tested.
 -- Assumes nothing.
-use Prim.Native.Nat.{ℕ, zero, suc, ◌+◌, ◌-◌, ◌≤◌, ◌<◌}
+use Rattle.std.specs.Prelude.{if◌then◌else◌}
+use Rattle.std.specs.List.{list_all}
+use Rattle.std.proofs.lemmas.List.Folds.{list_all-append}
+use Prim.Native.Nat.{ℕ, zero, suc, ◌-◌, ◌≤◌, ◌<◌}
 use mathlib.Core.Path.{◌≡◌, refl, sym, ap, ◌∙◌}
 use mathlib.Core.Logic.{◌⊎◌, inl, inr}
 use mathlib.Core.Bool.{Bool, true, false, ◌&&◌}
-use mathlib.Core.List.{List, [], ◌∷◌}
+use mathlib.Core.List.{List, [], ◌∷◌, reverse, reverse-cons}
 use native.Mathlib.Nat.{le_of_suc-le-suc, not-suc-le-zero}
-use native.Mathlib.Numerals.{add-one}
 use native.Mathlib.Omega.{arith}
-use lib.Dec.{leb, eqb}
-use lib.ListN.{length, get_or, drop, set, get_or-eq_default}
-use lib.Seq.{drop-cons}
-use borrow.Author.Tests.{leb-true, leb-false, eq-eqb, ne_eqb}
-use Rattle.base.proofs.Choices.{and_left, and_right, and_false, false_true}
-use Rattle.drive.specs.declared.rates.RateUnit.TheVariants.{Um}
-use Rattle.drive.specs.declared.directions.Direction.TheVariants.{Infuse}
+use lib.Dec.{leb}
+use lib.ListN.{length, get_or, set, get_or-eq_default}
+use borrow.Author.Tests.{le-leb, lt-leb}
+use Rattle.base.proofs.Choices.{and_false}
 use Rattle.words.specs.Functions.{is_phase}
 use Rattle.words.specs.Phases.{power_up, is_sound_phase}
-use Rattle.words.specs.declared.functions.Function.TheVariants as f
 use Rattle.words.specs.declared.phases.Phase.{Phase}
 use Rattle.pump.specs.Holder.{phase_count, stop_phase, phase_at, with_phases, with_phase, is_sound_phases}
 use Rattle.pump.specs.declared.holder.Pump.{Pump}
-
--- ---- a number that passed the test is from 1 to the last
-module _ (count n : ℕ) (e : is_phase count n ≡ true) where
-  pub number_least : 1 ≤ n
-  number_least = leb-true 1 n (and_left (leb 1 n) (leb n count) e)
-
-  pub number_most : n ≤ count
-  number_most = leb-true n count (and_right (leb 1 n) (leb n count) e)
 
 -- ---- the phase of a number
 get_d_within : (l : List Phase) (i : ℕ) (d e : Phase) → i < length l → get_or l i d ≡ get_or l i e
@@ -64,87 +54,34 @@ module _ {count : ℕ} (ps : List Phase) (n : ℕ) (here : Phase) (full : length
   pub phase_under : n < 1 → here ≡ power_up 0 → here ≡ phase_at ps n
   phase_under h e = e ∙ power_up_stops ∙ none ps n (inl h)
 
-  pub phase_none : is_phase count n ≡ false → here ≡ power_up 0 → here ≡ phase_at ps n
-  phase_none e q = go (leb 1 n) (leb n count) refl refl e
-    where
-      go : (t u : Bool) → leb 1 n ≡ t → leb n count ≡ u → (t && u) ≡ false → here ≡ phase_at ps n
-      go false u j k z = phase_under (leb-false 1 n j) q
-      go true true j k z = false_true (sym z)
-      go true false j k z = phase_over (leb-false n count k) q
-
 -- ---- another phase of a number
 module _ {count : ℕ} (p : Pump) (n : ℕ) (x : Phase) (full : phase_count p ≡ count) where
-  pub set_within : is_phase count n ≡ true → with_phases p (set p.phases (n - 1) x) ≡ with_phase p n x
+  by_number : (t : Bool) → is_phase count n ≡ t → (if t then with_phases p (set p.phases (n - 1) x) else p) ≡ with_phase p n x
   unfolding with_phase
-  set_within e = sym (simp (ap (λ (k : ℕ). is_phase k n) full ∙ e))
+  by_number t e = sym (simp (ap (λ (k : ℕ). is_phase k n) full ∙ e))
 
-  pub set_past : is_phase count n ≡ false → p ≡ with_phase p n x
-  unfolding with_phase
-  set_past e = sym (simp (ap (λ (k : ℕ). is_phase k n) full ∙ e))
+  pub set_within : 1 ≤ n → n ≤ count → with_phases p (set p.phases (n - 1) x) ≡ with_phase p n x
+  set_within a b = by_number true (simp (le-leb 1 n a, le-leb n count b))
+
+  pub set_over : count < n → p ≡ with_phase p n x
+  set_over h = by_number false (ap (λ (t : Bool). leb 1 n && t) (lt-leb n count h) ∙ and_false (leb 1 n))
+
+  pub set_under : n < 1 → p ≡ with_phase p n x
+  set_under h = by_number false (simp (lt-leb 1 n h))
 
 -- ---- every phase tested, from the last on
--- what is read past the end of an array of phases: each field's first value
-abbrev pub zero_phase : Phase
-zero_phase = record { rate = 0; volume = 0; function = f.Rat; unit = Um; direction = Infuse }
+turned : (t u : Bool) → (t && (u && true)) ≡ (u && t)
+turned true true = refl
+turned true false = refl
+turned false true = refl
+turned false false = refl
 
-sound_step :
-    (count : ℕ) (ps : List Phase) (i : ℕ)
-    → i < length ps
-    → is_sound_phases count (drop i ps) ≡ (is_sound_phase count (get_or ps i zero_phase) && is_sound_phases count (drop (i + 1) ps))
+pub sound_as : (count : ℕ) (ps : List Phase) → list_all (is_sound_phase count) (reverse ps) ≡ is_sound_phases count ps
 unfolding is_sound_phases
-sound_step count ps i h = rw (add-one i, drop-cons ps i zero_phase h)
-
-sound_rest : (count : ℕ) (ps : List Phase) (i : ℕ) → length ps ≤ i → is_sound_phases count (drop i ps) ≡ true
-unfolding is_sound_phases
-sound_rest count [] zero h = refl
-sound_rest count [] (suc i) h = refl
-sound_rest count (p ∷ ps) zero h = absurd (not-suc-le-zero h)
-sound_rest count (p ∷ ps) (suc i) h = sound_rest count ps i (le_of_suc-le-suc h)
-
-and_true : (t : Bool) → (t && true) ≡ t
-and_true true = refl
-and_true false = refl
-
--- one that is not sound is enough
-drop_unsound : (count : ℕ) (ps : List Phase) (i : ℕ) → is_sound_phases count (drop i ps) ≡ false → is_sound_phases count ps ≡ false
-unfolding is_sound_phases
-drop_unsound count ps zero e = e
-drop_unsound count [] (suc i) e = e
-drop_unsound count (p ∷ ps) (suc i) e =
-    ap (λ (t : Bool). is_sound_phase count p && t) (drop_unsound count ps i e) ∙ and_false (is_sound_phase count p)
-
--- those behind the first i are sound
-pub record Tested (count : ℕ) (ps : List Phase) (i : ℕ) : Type 0 where
-  pub inside : i ≤ count
-  pub rest : is_sound_phases count (drop i ps) ≡ true
-
-module _ {count : ℕ} (ps : List Phase) (full : length ps ≡ count) where
-  pub tested_none : Tested count ps count
-  tested_none = record { inside = omega arith; rest = sound_rest count ps count (omega (arith, full)) }
-
-  -- all of them are tested for the number that there are
-  as_many : is_sound_phases (length ps) ps ≡ is_sound_phases count ps
-  as_many = ap (λ (k : ℕ). is_sound_phases k ps) full
-
-  module _ (i : ℕ) (m : Tested count ps i) where
-    module _ (h : 0 < i) (r : Bool) (p : r ≡ is_sound_phase count (get_or ps (i - 1) zero_phase)) where
-      one_more : is_sound_phases count (drop (i - 1) ps) ≡ r
-      one_more =
-          let e : i - 1 + 1 ≡ i = omega arith in
-          sound_step count ps (i - 1) (omega (arith, full, m.inside))
-          ∙ ap (λ (k : ℕ). is_sound_phase count (get_or ps (i - 1) zero_phase) && is_sound_phases count (drop k ps)) e
-          ∙ ap (λ (t : Bool). is_sound_phase count (get_or ps (i - 1) zero_phase) && t) m.rest
-          ∙ and_true (is_sound_phase count (get_or ps (i - 1) zero_phase))
-          ∙ sym p
-
-      pub tested_more : r ≡ true → Tested count ps (i - 1)
-      tested_more e = record { inside = omega (arith, m.inside); rest = one_more ∙ e }
-
-      pub one_unsound : r ≡ false → eqb i 0 ≡ is_sound_phases (length ps) ps
-      one_unsound e =
-          ne_eqb i 0 (λ z. omega (arith, z)) ∙ sym (as_many ∙ drop_unsound count ps (i - 1) (one_more ∙ e))
-
-    pub all_sound : i ≤ 0 → eqb i 0 ≡ is_sound_phases (length ps) ps
-    all_sound h =
-        let e : i ≡ 0 = omega arith in
-        eq-eqb i 0 e ∙ sym (as_many ∙ sym (ap (λ (k : ℕ). is_sound_phases count (drop k ps)) e) ∙ m.rest)
+sound_as count [] = refl
+sound_as count (p ∷ ps) =
+    let test = is_sound_phase count in
+    ap (list_all test) (reverse-cons p ps)
+    ∙ list_all-append test (reverse ps) (p ∷ [])
+    ∙ ap (λ (t : Bool). t && (test p && true)) (sound_as count ps)
+    ∙ turned (is_sound_phases count ps) (test p)

@@ -1,7 +1,7 @@
 -- Many ticks of the pump are as many of its core and of its link, up to one that sends an alarm, and stay sound; what is known with some
 -- of them left.
 -- Assumes nothing.
-use Rattle.std.specs.Prelude.{if◌then◌else◌}
+use Rattle.std.specs.Prelude.{if◌then◌else◌, Option, Some, None, is_some}
 use Prim.Native.Nat.{ℕ, zero, suc, ◌+◌, ◌-◌, ◌*◌, ◌≤◌, ◌<◌}
 use mathlib.Core.Path.{◌≡◌, refl, sym, ap, ◌∙◌, subst}
 use mathlib.Core.Logic.{◌⊎◌, inl, inr}
@@ -21,8 +21,6 @@ use Rattle.words.specs.declared.answers.Said.TheVariants as said
 use Rattle.words.specs.declared.phases.Phase.{Phase}
 use Rattle.program.specs.Runs.{pending}
 use Rattle.program.specs.declared.state.Core.{Core}
-use Rattle.program.specs.declared.state.Pending.{Pending}
-use Rattle.program.specs.declared.state.Pending.TheVariants.{NoAlarm, Raised}
 use Rattle.tick.specs.Ticks.{tick}
 use Rattle.tick.specs.declared.Moved.{Moved}
 use Rattle.leap.specs.Leaps.{most_ticks, Moves, ticks}
@@ -35,7 +33,7 @@ use Rattle.link.proofs.Theorems.{ticks_safe}
 use Rattle.answer.specs.Answers.{room, answer_of, length_in, buffer_after}
 use Rattle.answer.specs.declared.frame.Frame.TheVariants.{Packet}
 use Rattle.pump.specs.Calls.{tick_at, tick_call, tick_buffer, tick_done, and_tick, one_more, in_turn, ticks_call, ticks_buffer}
-use Rattle.pump.specs.Elapsing.{has_alarm, is_alarmed, is_due, reach, is_watched, sent_in}
+use Rattle.pump.specs.Elapsing.{is_alarmed, is_due, reach, is_watched, sent_in}
 use Rattle.pump.specs.Going.{moves_in, Ongoing, Turned}
 use Rattle.pump.specs.Holder.{phase_count, phase_at, with_device, is_sound_pump}
 use Rattle.pump.specs.Reports.{of_byte, of_ticks, is_refused, Outcome, refused, unless_refused, reported, moved_by, moved_buffer}
@@ -43,7 +41,6 @@ use Rattle.pump.specs.Reports.{gone, gone_buffer}
 use Rattle.pump.specs.declared.holder.Pump.{Pump}
 use Rattle.pump.specs.declared.many.Going.{Going}
 use Rattle.pump.specs.declared.reports.Refusal.{Refusal}
-use Rattle.pump.specs.declared.reports.Refusal.TheVariants.{Accepted}
 use Rattle.pump.proofs.Alarms as alarms
 use Rattle.pump.proofs.Alarms.{Quiet, resting, quiet_none, quiet_before, quiet_sent, quiet_device, next_device, next_sent}
 use Rattle.pump.proofs.Calling.{Taken, many_taken, silent_length, silent_buffer}
@@ -67,14 +64,14 @@ module _ (p : Pump) (buffer : List ℕ) (sound : is_sound_pump p ≡ true) (room
   sound_tick_buffer = simp (sound, le-ltb (length buffer) room roomy)
 
 -- ---- what some ticks come to, and what they come to where none sent an alarm
-abbrev gone_of : Pump → ℕ → Refusal → List ℕ → Outcome
+abbrev gone_of : Pump → ℕ → Option Refusal → List ℕ → Outcome
 gone_of p i refusal buffer =
     record { report = gone p (moves p i) i refusal buffer; buffer = gone_buffer p (moves p i) i buffer }
 
 abbrev pub rested : Pump → ℕ → Pump
 rested p i = with_device p (resting (look p) p.device i)
 
-abbrev quietly : Pump → ℕ → Refusal → List ℕ → Outcome
+abbrev quietly : Pump → ℕ → Option Refusal → List ℕ → Outcome
 quietly p i refusal buffer =
     record {
       report =
@@ -94,7 +91,7 @@ quietly p i refusal buffer =
 abbrev QuietFor : Pump → ℕ → Type 0
 QuietFor p i = Quiet (look p) p.device i
 
-quiet_gone : (p : Pump) (i : ℕ) (refusal : Refusal) (buffer : List ℕ) → QuietFor p i → gone_of p i refusal buffer ≡ quietly p i refusal buffer
+quiet_gone : (p : Pump) (i : ℕ) (refusal : Option Refusal) (buffer : List ℕ) → QuietFor p i → gone_of p i refusal buffer ≡ quietly p i refusal buffer
 quiet_gone p i refusal buffer q =
     λ k.
     record {
@@ -132,9 +129,9 @@ module _ (p : Pump) (sound : is_sound_pump p ≡ true) where
 
   module _ (buffer : List ℕ) (roomy : room ≤ length buffer) where
     -- one tick behind some that sent nothing
-    one_more_lem : (i : ℕ) → QuietFor p i → one_more (quietly p i Accepted buffer) ≡ gone_of p (suc i) Accepted buffer
+    one_more_lem : (i : ℕ) → QuietFor p i → one_more (quietly p i None buffer) ≡ gone_of p (suc i) None buffer
     unfolding ticks
-    one_more_lem i q = ap (and_tick (quietly p i Accepted buffer)) taken ∙ sums
+    one_more_lem i q = ap (and_tick (quietly p i None buffer)) taken ∙ sums
       where
         m : Moved
         m = tick (moves p i).core (look p (moves p i).core.run.place.current)
@@ -150,9 +147,9 @@ module _ (p : Pump) (sound : is_sound_pump p ≡ true) where
             }
 
         sums :
-            and_tick (quietly p i Accepted buffer)
+            and_tick (quietly p i None buffer)
             (record { report = moved_by (rested p i) m buffer; buffer = moved_buffer (rested p i) m buffer })
-            ≡ gone_of p (suc i) Accepted buffer
+            ≡ gone_of p (suc i) None buffer
         sums =
             λ k.
             record {
@@ -164,22 +161,22 @@ module _ (p : Pump) (sound : is_sound_pump p ≡ true) where
                     withdrawn = (moves p i).withdrawn + m.withdrawn;
                     beeps = (moves p i).beeps + (if m.beep then 1 else 0);
                     ticks = add-one i k;
-                    refusal = Accepted;
+                    refusal = None;
                     output = m.core.output;
                   };
               buffer = buffer_after Packet 0 (next_sent (look p) p.device i q m.core k) buffer;
             }
 
     -- so many calls of a tick are so many ticks of the core and of the link
-    in_turn_lem : (i : ℕ) → QuietFor p i → in_turn (suc i) p buffer ≡ gone_of p (suc i) Accepted buffer
+    in_turn_lem : (i : ℕ) → QuietFor p i → in_turn (suc i) p buffer ≡ gone_of p (suc i) None buffer
     unfolding in_turn ticks link_ticks
     in_turn_lem zero q = one_more_lem zero q
     in_turn_lem (suc i) q =
-        ap one_more (in_turn_lem i (quiet_before (look p) p.device i q) ∙ quiet_gone p (suc i) Accepted buffer q) ∙ one_more_lem (suc i) q
+        ap one_more (in_turn_lem i (quiet_before (look p) p.device i q) ∙ quiet_gone p (suc i) None buffer q) ∙ one_more_lem (suc i) q
 
-    pub ran_in_turn : (i : ℕ) → (0 < i → QuietFor p (i - 1)) → in_turn i p buffer ≡ gone_of p i Accepted buffer
+    pub ran_in_turn : (i : ℕ) → (0 < i → QuietFor p (i - 1)) → in_turn i p buffer ≡ gone_of p i None buffer
     unfolding in_turn ticks link_ticks
-    ran_in_turn zero q = sym (quiet_gone p 0 Accepted buffer (quiet_none (look p) p.device))
+    ran_in_turn zero q = sym (quiet_gone p 0 None buffer (quiet_none (look p) p.device))
     ran_in_turn (suc i) q =
         let e : suc i - 1 ≡ i = omega arith in
         in_turn_lem i (subst (QuietFor p) e (q (omega arith)))
@@ -202,27 +199,22 @@ alarm_written a buffer roomy =
     let told : length_in Packet 0 (said.Alarm a) buffer ≡ length (answer_of Packet 0 (said.Alarm a)) = simp (le-leb room (length buffer) roomy) in
     ap (λ (n : ℕ). eqb n 0) told ∙ ne_eqb (length (answer_of Packet 0 (said.Alarm a))) 0 (λ e. omega arith)
 
--- ---- what is known with so many of n ticks left, and the phase in hand; a tick gives at most 255 steps in a direction
-pub record Ran (p : Pump) (n : ℕ) (g : Going) (here : Phase) : Type 0 where
+-- ---- what is known with so many of n ticks left; a tick gives at most 255 steps in a direction
+pub record Ran (p : Pump) (n : ℕ) (g : Going) : Type 0 where
   pub inside : g.left ≤ n
-  pub in_hand_lem : here ≡ look p g.core.run.place.current
   pub same : moves_in g ≡ moves p (n - g.left)
   pub infused_few : g.infused ≤ (n - g.left) * 255
   pub withdrawn_few : g.withdrawn ≤ (n - g.left) * 255
   pub beeps_few : g.beeps ≤ n - g.left
 
 pub ran_none :
-    (p : Pump) (n : ℕ) (g : Going) (here : Phase)
-    → g ≡ record { core = p.device.core; left = n; infused = 0; withdrawn = 0; beeps = 0 }
-    → here ≡ look p p.device.core.run.place.current
-    → Ran p n g here
+    (p : Pump) (n : ℕ) (g : Going) → g ≡ record { core = p.device.core; left = n; infused = 0; withdrawn = 0; beeps = 0 } → Ran p n g
 unfolding ticks
-ran_none p n g here e h =
+ran_none p n g e =
     let none : n - n ≡ 0 = omega arith in
     rw e
     (record {
       inside = omega arith;
-      in_hand_lem = h;
       same = sym (ap (moves p) none);
       infused_few = omega arith;
       withdrawn_few = omega arith;
@@ -231,7 +223,7 @@ ran_none p n g here e h =
 
 -- ---- no alarm that would be sent was pending before the last of the ticks that are done
 abbrev pub Calm : Pump → ℕ → Going → Type 0
-Calm p n g = 0 < n - g.left → is_watched p.device ≡ true → pending (moves p (n - g.left - 1)).core.run ≡ NoAlarm
+Calm p n g = 0 < n - g.left → is_watched p.device ≡ true → pending (moves p (n - g.left - 1)).core.run ≡ None
 
 pub calm_none :
     (p : Pump) (n : ℕ) (g : Going) → g ≡ record { core = p.device.core; left = n; infused = 0; withdrawn = 0; beeps = 0 } → Calm p n g
@@ -246,11 +238,11 @@ pub calm_at :
     → alarmed ≡ is_alarmed s
     → (watched && alarmed) ≡ false
     → is_watched p.device ≡ true
-    → pending s.run ≡ NoAlarm
+    → pending s.run ≡ None
 calm_at p s watched alarmed e k h w =
     alarms.not_raised (pending s.run) (ap not (sym k ∙ ap (λ (t : Bool). t && alarmed) (sym w ∙ sym e) ∙ h))
 
-module _ (p : Pump) (n : ℕ) (g : Going) (here : Phase) (ran : Ran p n g here) where
+module _ (p : Pump) (n : ℕ) (g : Going) (ran : Ran p n g) (here : Phase) (is : here ≡ look p g.core.run.place.current) where
   -- some are left: a turn may rely on this
   pub ongoing : phase_count p ≤ 99 → is_sound_pump p ≡ true → n ≤ most_ticks → 0 < g.left → Ongoing g here
   ongoing few sound most some =
@@ -264,26 +256,25 @@ module _ (p : Pump) (n : ℕ) (g : Going) (here : Phase) (ran : Ran p n g here) 
         few = few;
         look = look p;
         table = table_here p sound;
-        in_hand_lem = ran.in_hand_lem;
+        in_hand_lem = is;
         kept = pump_core q fine;
         infused_few = omega (arith, ran.inside, ran.infused_few);
         withdrawn_few = omega (arith, ran.inside, ran.withdrawn_few);
         beeps_few = omega (arith, ran.inside, ran.beeps_few);
       }
 
-  pub calm_on : (r : Going) → Turned g here r → (is_watched p.device ≡ true → pending g.core.run ≡ NoAlarm) → Calm p n r
+  pub calm_on : (r : Going) → Turned g here r → (is_watched p.device ≡ true → pending g.core.run ≡ None) → Calm p n r
   calm_on r t calm h w =
       let e : (n - g.left) + (g.left - r.left) - 1 ≡ n - r.left - 1 = omega (arith, t.fewer, ran.inside) in
-      subst (λ i. pending (moves p i).core.run ≡ NoAlarm) e
-      (t.calm (look p) p.device.core (n - g.left) ran.in_hand_lem ran.same (calm w))
+      subst (λ i. pending (moves p i).core.run ≡ None) e
+      (t.calm (look p) p.device.core (n - g.left) is ran.same (calm w))
 
-  pub ran_on : (r : Going) (next : Phase) → Turned g here r → next ≡ look p r.core.run.place.current → Ran p n r next
-  ran_on r next t h =
+  pub ran_on : (r : Going) → Turned g here r → Ran p n r
+  ran_on r t =
       let e : (n - g.left) + (g.left - r.left) ≡ n - r.left = omega (arith, t.fewer, ran.inside) in
       record {
         inside = omega (arith, t.fewer, ran.inside);
-        in_hand_lem = h;
-        same = t.same (look p) p.device.core (n - g.left) ran.in_hand_lem ran.same ∙ ap (moves p) e;
+        same = t.same (look p) p.device.core (n - g.left) is ran.same ∙ ap (moves p) e;
         infused_few = omega (arith, t.fewer, t.infused_few, ran.inside, ran.infused_few);
         withdrawn_few = omega (arith, t.fewer, t.withdrawn_few, ran.inside, ran.withdrawn_few);
         beeps_few = omega (arith, t.fewer, t.beeps_few, ran.inside, ran.beeps_few);
@@ -345,7 +336,7 @@ stopped p g watched alarm w a e = go (ltb 0 g.left) refl e
         let both = not_false (watched && alarm) z in
         alarmed (sym w ∙ and_left watched alarm both) (sym a ∙ and_right watched alarm both)
 
-module _ (p : Pump) (n : ℕ) (g : Going) (here : Phase) (ran : Ran p (reach n p.device.link) g here)
+module _ (p : Pump) (n : ℕ) (g : Going) (ran : Ran p (reach n p.device.link) g)
     (calm : Calm p (reach n p.device.link) g) where
   abbrev span : ℕ
   span = reach n p.device.link
@@ -382,21 +373,21 @@ module _ (p : Pump) (n : ℕ) (g : Going) (here : Phase) (ran : Ran p (reach n p
       safe : is_safe p.device.link ≡ true
       safe = and_left (is_safe p.device.link) (not (is_alarmed p.device.core)) w
 
-      none : pending p.device.core.run ≡ NoAlarm
+      none : pending p.device.core.run ≡ None
       none = alarms.not_raised (pending p.device.core.run) (and_right (is_safe p.device.link) (not (is_alarmed p.device.core)) w)
 
       at_end_lem : pending (moves p done).core.run ≡ pending g.core.run
       at_end_lem = sym (ap (λ (x : Moves). pending x.core.run) ran.same)
 
       go :
-          (x : Pending)
+          (x : Option Alarm)
           → pending g.core.run ≡ x
           → (u : Bool)
           → is_due done p.device.link ≡ u
           → (a : Alarm) × (sent_in done p.device (moves p done).core ≡ said.Alarm a)
-      go NoAlarm e u d = false_true (sym (ap has_alarm e) ∙ alarm)
-      go (Raised a) e true d = (TimeOut, alarms.due_sent p.device done (moves p done).core safe d)
-      go (Raised a) e false d = (a, alarms.new_sent p.device done (moves p done).core safe a d none (at_end_lem ∙ e))
+      go None e u d = false_true (sym (ap (is_some {T = Alarm}) e) ∙ alarm)
+      go (Some a) e true d = (TimeOut, alarms.due_sent p.device done (moves p done).core safe d)
+      go (Some a) e false d = (a, alarms.new_sent p.device done (moves p done).core safe a d none (at_end_lem ∙ e))
 
   over : Stops p g → Over p n done
   over (ran_out none) =
@@ -405,7 +396,7 @@ module _ (p : Pump) (n : ℕ) (g : Going) (here : Phase) (ran : Ran p (reach n p
       record { within = let z = reach_few n p.device.link in omega arith; before = quiet_to; ends = inr (alarm_ends w a) }
 
 -- ---- what is refused runs no tick, and what is not runs all, or up to an alarm
-module _ (p : Pump) (buffer : List ℕ) (n span : ℕ) (sound t : Bool) (refusal : Refusal) (is : sound ≡ is_sound_pump p)
+module _ (p : Pump) (buffer : List ℕ) (n span : ℕ) (sound t : Bool) (refusal : Option Refusal) (is : sound ≡ is_sound_pump p)
     (k : refusal ≡ of_ticks sound (length buffer) n) (tested : t ≡ is_refused refusal) where
   refused_as : is_refused (of_ticks (is_sound_pump p) (length buffer) n) ≡ t
   refused_as = ap (λ (b : Bool). is_refused (of_ticks b (length buffer) n)) (sym is) ∙ ap is_refused (sym k) ∙ sym tested
@@ -431,18 +422,18 @@ module _ (p : Pump) (buffer : List ℕ) (n span : ℕ) (sound t : Bool) (refusal
   unfolding ticks_call ticks_buffer ticks link_ticks
   none_done w =
       quiet_gone p 0 refusal buffer (quiet_none (look p) p.device)
-      ∙ ap (λ (x : Refusal). record { report = refused p x; buffer = buffer }) refusal_is
+      ∙ ap (λ (x : Option Refusal). record { report = refused p x; buffer = buffer }) refusal_is
       ∙ sym (simp (refused_as ∙ w))
 
   pub all_done : t ≡ false → (done : ℕ) → Over p n done → gone_of p done refusal buffer ≡ ticks_done
   unfolding ticks_call ticks_buffer
   all_done w done over =
-      ap (λ (x : Refusal). gone_of p done x buffer) (refusal_is ∙ m.accepted) ∙ sym turned ∙ go over.ends ∙ sym (simp (refused_as ∙ w))
+      ap (λ (x : Option Refusal). gone_of p done x buffer) (refusal_is ∙ m.accepted) ∙ sym turned ∙ go over.ends ∙ sym (simp (refused_as ∙ w))
     where
       m : Taken (is_sound_pump p) (length buffer) n
       m = many_taken (is_sound_pump p) (length buffer) n (refused_as ∙ w)
 
-      turned : in_turn done p buffer ≡ gone_of p done Accepted buffer
+      turned : in_turn done p buffer ≡ gone_of p done None buffer
       turned = ran_in_turn p m.of_sound buffer m.roomy done over.before
 
       go : (done ≡ n) ⊎ ((a : Alarm) × (sent_in done p.device (moves p done).core ≡ said.Alarm a)) → in_turn done p buffer ≡ in_turn n p buffer
@@ -455,9 +446,9 @@ module _ (p : Pump) (buffer : List ℕ) (n span : ℕ) (sound t : Bool) (refusal
           ∙ alarm_written e.0 buffer m.roomy in
           sym (no_more p m.of_sound buffer done (n - done) some) ∙ ap (λ (i : ℕ). in_turn i p buffer) count
 
-module _ (p : Pump) (buffer : List ℕ) (n span : ℕ) (sound t : Bool) (refusal : Refusal) (is : sound ≡ is_sound_pump p)
+module _ (p : Pump) (buffer : List ℕ) (n span : ℕ) (sound t : Bool) (refusal : Option Refusal) (is : sound ≡ is_sound_pump p)
     (k : refusal ≡ of_ticks sound (length buffer) n) (tested : t ≡ is_refused refusal)
-    (g : Going) (here : Phase) (ran : Ran p span g here) (calm : Calm p span g) (stops : Stops p g) where
+    (g : Going) (ran : Ran p span g) (calm : Calm p span g) (stops : Stops p g) where
   abbrev told : Outcome
   told =
       record { report = gone p (moves_in g) (span - g.left) refusal buffer; buffer = gone_buffer p (moves_in g) (span - g.left) buffer }
@@ -478,7 +469,7 @@ module _ (p : Pump) (buffer : List ℕ) (n span : ℕ) (sound t : Bool) (refusal
   finished (inr w) =
       let ended : Over p n (span - g.left) =
       subst (λ (x : ℕ). Over p n (x - g.left)) (sym w.1)
-      (over p n g here (subst (λ (x : ℕ). Ran p x g here) w.1 ran) (subst (λ (x : ℕ). Calm p x g) w.1 calm) stops) in
+      (over p n g (subst (λ (x : ℕ). Ran p x g) w.1 ran) (subst (λ (x : ℕ). Calm p x g) w.1 calm) stops) in
       as_moved ∙ all_done p buffer n span sound t refusal is k tested w.0 (span - g.left) ended
 
 -- ---- one tick is a call of one
@@ -512,7 +503,7 @@ one_done p buffer = one_sum p buffer (tick_done p buffer)
 pub one_tick_lem : (p : Pump) (buffer : List ℕ) → ticks_call p 1 buffer ≡ tick_call p buffer
 unfolding ticks_call tick_call
 one_tick_lem p buffer =
-    ap (λ (x : Refusal). unless_refused p x (in_turn 1 p buffer).report) (one_refusal (is_sound_pump p) (length buffer))
+    ap (λ (x : Option Refusal). unless_refused p x (in_turn 1 p buffer).report) (one_refusal (is_sound_pump p) (length buffer))
     ∙ ap (λ (o : Outcome). unless_refused p (of_byte (is_sound_pump p) (length buffer)) o.report) (one_done p buffer)
     ∙ go (is_refused (of_byte (is_sound_pump p) (length buffer)))
   where
@@ -527,7 +518,7 @@ one_tick_lem p buffer =
 pub one_tick_buffer : (p : Pump) (buffer : List ℕ) → ticks_buffer p 1 buffer ≡ tick_buffer p buffer
 unfolding ticks_buffer tick_buffer
 one_tick_buffer p buffer =
-    ap (λ (x : Refusal). if is_refused x then buffer else (in_turn 1 p buffer).buffer) (one_refusal (is_sound_pump p) (length buffer))
+    ap (λ (x : Option Refusal). if is_refused x then buffer else (in_turn 1 p buffer).buffer) (one_refusal (is_sound_pump p) (length buffer))
     ∙ ap (λ (o : Outcome). if is_refused (of_byte (is_sound_pump p) (length buffer)) then buffer else o.buffer) (one_done p buffer)
     ∙ go (is_refused (of_byte (is_sound_pump p) (length buffer)))
   where

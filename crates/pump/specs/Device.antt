@@ -1,12 +1,13 @@
 -- All of the state but the phases: what an edge and a whole text do to it, with the phases looked up for it.   (01, Line and answer: the
 -- checks in order; Calls; 02, 2/12)
-use Rattle.std.specs.Prelude.{ℕ, Bool, ◌||◌, not, List, [], ◌∷◌, leb, eqb, if◌then◌else◌}
+use Rattle.std.specs.Prelude.{ℕ, Bool, ◌||◌, not, List, [], ◌∷◌, leb, eqb, if◌then◌else◌, Option, Some, None}
 use Rattle.base.specs.All.{all}
 use Rattle.drive.specs.declared.directions.Direction.{Direction}
 use Rattle.words.specs.declared.answers.Reply.{Reply}
 use Rattle.words.specs.declared.answers.Reply.TheVariants as reply
 use Rattle.words.specs.declared.answers.Said.{Said}
 use Rattle.words.specs.declared.answers.Said.TheVariants as s
+use Rattle.words.specs.declared.answers.Alarm.{Alarm}
 use Rattle.words.specs.declared.commands.Asked.{Asked}
 use Rattle.words.specs.declared.commands.Command.{Command}
 use Rattle.words.specs.declared.commands.Request.{Request}
@@ -19,8 +20,6 @@ use Rattle.program.specs.Runs.{pending, clear_alarm}
 use Rattle.program.specs.Sound.{is_sound_core}
 use Rattle.program.specs.Statuses.{status_run}
 use Rattle.program.specs.declared.state.Core.{Core}
-use Rattle.program.specs.declared.state.Pending.{Pending}
-use Rattle.program.specs.declared.state.Pending.TheVariants.{NoAlarm, Raised}
 use Rattle.command.specs.Obeying.{obey}
 use Rattle.command.specs.declared.obeying.Edit.{Edit}
 use Rattle.command.specs.declared.obeying.Edit.TheVariants.{Keep, Write, Renew}
@@ -98,10 +97,10 @@ met v (request.SetLimit n) hand next phases = set_limit v n
 met v (request.Pump command) hand next phases = obeyed v command hand next phases
 
 -- ---- a pending alarm is answered, then cleared, and the command is not run
-abbrev pub ours_by : Device → Request → Phase → Function → ℕ → Pending → Heard
-ours_by v request hand next phases (Raised a) =
+abbrev pub ours_by : Device → Request → Phase → Function → ℕ → Option Alarm → Heard
+ours_by v request hand next phases (Some a) =
     record { device = with_core v (with_run v.core (clear_alarm v.core.run)); edit = Keep; told = told.Alarm a }
-ours_by v request hand next phases NoAlarm = met v request hand next phases
+ours_by v request hand next phases None = met v request hand next phases
 
 unfoldable pub ours : Device → Request → Phase → Function → ℕ → Heard
 ours v request hand next phases = ours_by v request hand next phases (pending v.core.run)

@@ -1,10 +1,9 @@
 -- Ticks under way: what the code of a turn may rely on, and what it promises.   (02, 1/12)
-use Rattle.std.specs.Prelude.{ℕ, ◌+◌, ◌-◌, ◌*◌, ◌≤◌, ◌<◌, ◌≡◌, true}
+use Rattle.std.specs.Prelude.{ℕ, ◌+◌, ◌-◌, ◌*◌, ◌≤◌, ◌<◌, ◌≡◌, true, None}
 use Rattle.words.specs.declared.phases.Phase.{Phase}
 use Rattle.program.specs.Runs.{pending}
 use Rattle.program.specs.Sound.{Table, is_sound_core}
 use Rattle.program.specs.declared.state.Core.{Core}
-use Rattle.program.specs.declared.state.Pending.TheVariants.{NoAlarm}
 use Rattle.leap.specs.Leaps.{most_ticks, Moves, ticks}
 use Rattle.pump.specs.declared.many.Going.{Going}
 
@@ -39,8 +38,8 @@ pub record Turned (g : Going) (here : Phase) (r : Going) : Type 0 where
       (look : ℕ → Phase) (s : Core) (i : ℕ)
       → here ≡ look g.core.run.place.current
       → moves_in g ≡ ticks look i s
-      → pending g.core.run ≡ NoAlarm
-      → pending (ticks look (i + (g.left - r.left) - 1) s).core.run ≡ NoAlarm
+      → pending g.core.run ≡ None
+      → pending (ticks look (i + (g.left - r.left) - 1) s).core.run ≡ None
   pub infused_few : r.infused ≤ g.infused + (g.left - r.left) * 255
   pub withdrawn_few : r.withdrawn ≤ g.withdrawn + (g.left - r.left) * 255
   pub beeps_few : r.beeps ≤ g.beeps + (g.left - r.left)

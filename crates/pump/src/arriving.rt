@@ -10,7 +10,8 @@ use link::Link;
 use packet::Outcome;
 use words::Asked;
 
-// What a byte brought to its end: nothing yet, a packet that is wrong, or a whole text.
+// What a byte brought to its end: nothing yet, a packet that is wrong, or a whole text. An Option would add a `Some` wherever one is
+// made, and take no test away.
 #[derive(Clone, Copy)]
 pub enum Brought {
     Nothing,
@@ -32,9 +33,7 @@ impl Device {
     {
         if self.link.is_safe() {
             let taken = self.link.after(b);
-            let link = taken.link;
-            let outcome = taken.outcome;
-            return self.packet_arrived(link, outcome);
+            return self.packet_arrived(taken.link, taken.outcome);
         }
         let arrived = self.line.after_byte(b);
         let mut line = arrived.line;
@@ -46,7 +45,7 @@ impl Device {
         self.line = line;
         Arrival {
             device: self,
-            brought: brought,
+            brought,
         }
     }
 
@@ -67,7 +66,7 @@ impl Device {
         };
         Arrival {
             device: self,
-            brought: brought,
+            brought,
         }
     }
 }
@@ -77,10 +76,6 @@ impl Brought {
     pub fn is_whole(self) -> bool
         ensures { result ≡ is_whole self }
     {
-        match self {
-            Brought::Nothing => false,
-            Brought::Wrong => true,
-            Brought::Text(_) => true,
-        }
+        !matches!(self, Brought::Nothing)
     }
 }

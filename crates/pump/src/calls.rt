@@ -3,12 +3,14 @@ ghost use Rattle.std.specs.Prelude.{◌≡◌};
 ghost use Rattle.pump.specs.Calls.{Handy, tick_call, tick_buffer, pin_call, byte_report, byte_buffer, told_of, after_text, frame_in};
 
 use crate::arriving::Brought;
+use crate::checks::is_fit;
 use crate::device::Told;
 use crate::holder::Pump;
 use crate::reports::{Refusal, Report};
 use answer::Frame;
+use command::InHand;
 use link::Link;
-use words::{Asked, Phase, Reply, Said};
+use words::{Asked, Reply, Said};
 
 // The pump after a whole text, and what it says: a value, whatever frames it.
 #[derive(Clone, Copy)]
@@ -30,52 +32,31 @@ impl Pump {
         ensures { result ≡ pin_call self pin level }
     {
         let refusal = Refusal::of_pin(self.is_sound(), pin, level);
-        if !refusal.is_refused() {
+        if refusal.is_none() {
             self.device = self.device.edge(pin, level == 1);
         }
         self.unstepped(0, refusal)
     }
 
     // One byte of a line, or in Safe mode of a packet. The answer to a whole one is written at the start of `out`, in the mode of the link
-    // that it came by: SAF and *RESET change the mode behind it. The state is tested as `Pump::is_sound` tests it. Phases and device are kept
-    // apart up to the end, so that a byte which brings nothing to its end copies the phases for the test and hands that copy back: a pump
-    // that is handed on would be copied at every byte.
-    pub fn byte(self, b: u8, out: &mut [u8]) -> Report
+    // that it came by: SAF and *RESET change the mode behind it.
+    pub fn byte(mut self, b: u8, out: &mut [u8]) -> Report
         ensures { (result ≡ byte_report self b out.old) × (out.new ≡ byte_buffer self b out.old) }
     {
-        let mut phases = self.phases;
-        let mut device = self.device;
-        let first = device.core.run.place.current;
-        let mut here = Phase::power_up(0);
-        if (1 <= first) & (first <= Pump::PHASES) {
-            let at = (first - 1) as usize;
-            here = phases[at];
-        }
-        let fit = device.is_sound(here, Pump::PHASES);
-        let mut i = Pump::PHASES as usize;
-        while 0 < i {
-            let p = phases[i - 1];
-            if !p.is_sound(Pump::PHASES) {
-                break;
-            }
-            i -= 1;
-        }
-        let refusal = Refusal::of_byte(fit & (i == 0), out.len());
+        let phases = self.phases;
+        let refusal = Refusal::of_byte(is_fit(&phases, self.device), out.len());
         let mut length: usize = 0;
-        if !refusal.is_refused() {
-            let source = device.link;
-            let arrival = device.arrived(b);
-            let brought = arrival.brought;
-            device = arrival.device;
-            if brought.is_whole() {
-                let listened = Pump::joined(phases, device).told(brought);
-                let said = listened.said;
-                phases = listened.pump.phases;
-                device = listened.pump.device;
-                length = answer::write(frame_in(source), 0, said, out);
+        if refusal.is_none() {
+            let source = self.device.link;
+            let arrival = self.device.arrived(b);
+            self.device = arrival.device;
+            if arrival.brought.is_whole() {
+                let listened = self.told(arrival.brought);
+                self = listened.pump;
+                length = answer::write(frame_in(source), 0, listened.said, out);
             }
         }
-        Pump::joined(phases, device).unstepped(length, refusal)
+        self.unstepped(length, refusal)
     }
 
     // What a byte brought to its end is heard. A wrong packet is answered `?COM` and asks for nothing.
@@ -90,12 +71,10 @@ impl Pump {
             },
             Brought::Wrong => {
                 let current = self.phase_at(self.device.core.run.place.current);
-                let direction = current.direction;
-                let said = self.device.said(Told::Reply(Reply::Garbled), direction);
-                Listened {
-                    pump: self,
-                    said: said,
-                }
+                let said = self
+                    .device
+                    .said(Told::Reply(Reply::Garbled), current.direction);
+                Listened { pump: self, said }
             }
             Brought::Text(asked) => self.after_text(asked),
         }
@@ -107,21 +86,17 @@ impl Pump {
         ensures { result ≡ after_text self asked }
     {
         let n = self.device.core.in_hand();
-        let hand = self.phase_at(n);
-        let next = self.phase_at(n + 1);
-        let function = next.function;
-        let heard = self.device.hear_text(asked, hand, function, Pump::PHASES);
-        let edit = heard.edit;
-        let told = heard.told;
+        let in_hand = InHand {
+            phase: self.phase_at(n),
+            next: self.phase_at(n + 1).function,
+            phases: Pump::PHASES,
+        };
+        let heard = self.device.hear_text(asked, in_hand);
         self = self.with_device(heard.device);
-        self = self.edited(n, edit);
+        self = self.edited(n, heard.edit);
         let current = self.phase_at(self.device.core.run.place.current);
-        let direction = current.direction;
-        let said = self.device.said(told, direction);
-        Listened {
-            pump: self,
-            said: said,
-        }
+        let said = self.device.said(heard.told, current.direction);
+        Listened { pump: self, said }
     }
 }
 

@@ -1,33 +1,34 @@
 // Whether a state is sound.
 ghost use Rattle.std.specs.Prelude.{◌≡◌};
-ghost use Rattle.pump.specs.Holder.{is_sound_pump};
+ghost use Rattle.pump.specs.Holder.{is_sound_phases, is_sound_pump, model_phases};
 
-use crate::holder::Pump;
+use crate::device::Device;
+use crate::holder::{Pump, phase_of};
 use words::Phase;
 
 impl Pump {
-    // Document 01's sentence on a sound state, whole. Both the phases and the current one are looked up in one copy of the phases: a call
-    // of `phase_at` here would make another. They are tested from the last down: the count is then held against 0, which costs nothing.
-    // `Pump::byte` and `Pump::ticks` make this test for themselves, in the copy that they go on with.
+    // Document 01's sentence on a sound state, whole.
     pub fn is_sound(self) -> bool
         ensures { result ≡ is_sound_pump self }
     {
         let phases = self.phases;
-        let n = self.device.core.run.place.current;
-        let mut here = Phase::power_up(0);
-        if (1 <= n) & (n <= Pump::PHASES) {
-            let at = (n - 1) as usize;
-            here = phases[at];
-        }
-        let fit = self.device.is_sound(here, Pump::PHASES);
-        let mut i = Pump::PHASES as usize;
-        while 0 < i {
-            let p = phases[i - 1];
-            if !p.is_sound(Pump::PHASES) {
-                break;
-            }
-            i -= 1;
-        }
-        fit & (i == 0)
+        is_fit(&phases, self.device)
     }
+}
+
+// The same of a pump in its parts. The phases are lent, and lie in a copy of their own: a pump that is lent or handed on is copied whole.
+#[inline(always)]
+pub fn is_fit(phases: &[Phase; 41], device: Device) -> bool
+    ensures { result ≡ is_sound_pump (record { phases = phases.now; device = device }) }
+{
+    let here = phase_of(phases, device.core.run.place.current);
+    device.is_sound(here, Pump::PHASES) & all_sound(phases)
+}
+
+// From the last phase down: what is left is then held against 0, which costs nothing.
+#[inline(always)]
+fn all_sound(phases: &[Phase; 41]) -> bool
+    ensures { result ≡ is_sound_phases model_phases phases.now }
+{
+    phases.iter().rev().all(|p| p.is_sound(Pump::PHASES))
 }

@@ -4,12 +4,12 @@ ghost use Rattle.std.specs.Prelude.{◌≡◌, ◌≤◌};
 ghost use Rattle.pump.specs.Device.{power_up_device, with_core, with_line, with_link, is_sound_device, edge, hear_text, ours, met, set_limit};
 ghost use Rattle.pump.specs.Device.{replied, obeyed, said, link_behind};
 
-use command::Edit;
+use command::{Edit, InHand};
 use drive::Direction;
 use line::Line;
 use link::Link;
-use program::{Core, Pending};
-use words::{Alarm, Asked, Command, Function, Phase, Reply, Request, Said};
+use program::Core;
+use words::{Alarm, Asked, Command, Phase, Reply, Request, Said};
 
 #[derive(Clone, Copy)]
 pub struct Device {
@@ -18,7 +18,7 @@ pub struct Device {
     pub link: Link,
 }
 
-// What a text is answered with, before the status is known: that is the status after the edit.
+// What a text is answered with, before the status is known: that is the status after the edit. Its cases go with those of `Said`.
 #[derive(Clone, Copy)]
 pub enum Told {
     Nothing,
@@ -68,15 +68,14 @@ impl Device {
         self.with_core(core)
     }
 
-    // A whole text, whatever framed it. Another address is passed over. `hand` is the phase in hand, `next` the function of the phase one
-    // number higher.
-    pub fn hear_text(self, asked: Asked, hand: Phase, next: Function, phases: u8) -> Heard
+    // A whole text, whatever framed it. Another address is passed over.
+    pub fn hear_text(self, asked: Asked, in_hand: InHand) -> Heard
         requires { self.core.run.place.current ≤ 100 }
-        ensures { result ≡ hear_text self asked hand next phases }
+        ensures { result ≡ hear_text self asked in_hand.phase in_hand.next in_hand.phases }
     {
         if asked.address == 0 {
             let request = asked.request;
-            return self.ours(request, hand, next, phases);
+            return self.ours(request, in_hand);
         }
         Heard {
             device: self,
@@ -86,12 +85,11 @@ impl Device {
     }
 
     // A pending alarm is answered, then cleared, and the command is not run.
-    fn ours(mut self, request: Request, hand: Phase, next: Function, phases: u8) -> Heard
+    fn ours(mut self, request: Request, in_hand: InHand) -> Heard
         requires { self.core.run.place.current ≤ 100 }
-        ensures { result ≡ ours self request hand next phases }
+        ensures { result ≡ ours self request in_hand.phase in_hand.next in_hand.phases }
     {
-        let pending = self.core.run.pending();
-        if let Pending::Raised(alarm) = pending {
+        if let Some(alarm) = self.core.run.pending() {
             self.core = self.core.with_run(self.core.run.clear_alarm());
             return Heard {
                 device: self,
@@ -99,18 +97,18 @@ impl Device {
                 told: Told::Alarm(alarm),
             };
         }
-        self.met(request, hand, next, phases)
+        self.met(request, in_hand)
     }
 
     // SAF is asked of the link, in every state of the pump; every other command of the pump.
-    fn met(self, request: Request, hand: Phase, next: Function, phases: u8) -> Heard
+    fn met(self, request: Request, in_hand: InHand) -> Heard
         requires { self.core.run.place.current ≤ 100 }
-        ensures { result ≡ met self request hand next phases }
+        ensures { result ≡ met self request in_hand.phase in_hand.next in_hand.phases }
     {
         match request {
             Request::AskLimit => self.replied(Reply::Limit(self.link.limit())),
             Request::SetLimit(n) => self.set_limit(n),
-            Request::Pump(command) => self.obeyed(command, hand, next, phases),
+            Request::Pump(command) => self.obeyed(command, in_hand),
         }
     }
 
@@ -137,19 +135,17 @@ impl Device {
     }
 
     // A command of the pump is run. *RESET returns to Basic mode too.
-    fn obeyed(mut self, command: Command, hand: Phase, next: Function, phases: u8) -> Heard
+    fn obeyed(mut self, command: Command, in_hand: InHand) -> Heard
         requires { self.core.run.place.current ≤ 100 }
-        ensures { result ≡ obeyed self command hand next phases }
+        ensures { result ≡ obeyed self command in_hand.phase in_hand.next in_hand.phases }
     {
-        let obeyed = command::obey(self.core, hand, next, phases, command);
-        let edit = obeyed.edit;
-        let reply = obeyed.reply;
-        self.link = link_behind(edit, self.link);
+        let obeyed = command::obey(self.core, in_hand, command);
+        self.link = link_behind(obeyed.edit, self.link);
         self = self.with_core(obeyed.core);
         Heard {
             device: self,
-            edit: edit,
-            told: Told::Reply(reply),
+            edit: obeyed.edit,
+            told: Told::Reply(obeyed.reply),
         }
     }
 

@@ -5,7 +5,7 @@ ghost use Rattle.link.specs.Link.{is_sound_link};
 ghost use Rattle.pump.specs.Elapsing.{reach, is_alarmed, is_watched, is_due, time_out, after_ticks, alarm_said, sent_in};
 
 use crate::device::Device;
-use program::{Core, Pending};
+use program::Core;
 use words::{Alarm, Said};
 
 impl Device {
@@ -78,17 +78,11 @@ fn time_out(core: Core) -> Core
 pub fn is_alarmed(core: Core) -> bool
     ensures { result ≡ is_alarmed core }
 {
-    match core.run.pending() {
-        Pending::NoAlarm => false,
-        Pending::Raised(_) => true,
-    }
+    core.run.pending().is_some()
 }
 
-fn alarm_said(pending: Pending) -> Said
+fn alarm_said(pending: Option<Alarm>) -> Said
     ensures { result ≡ alarm_said pending }
 {
-    match pending {
-        Pending::NoAlarm => Said::Nothing,
-        Pending::Raised(alarm) => Said::Alarm(alarm),
-    }
+    pending.map_or(Said::Nothing, Said::Alarm)
 }

@@ -30,39 +30,23 @@ impl Pump {
         let first = Phase::power_up(1);
         phases[0] = first;
         Pump {
-            phases: phases,
+            phases,
             device: Device::power_up(),
         }
     }
 
-    pub fn joined(phases: [Phase; 41], device: Device) -> Pump
-        ensures { result ≡ record { phases = phases; device = device } }
-    {
-        Pump {
-            phases: phases,
-            device: device,
-        }
-    }
-
-    // The phase of a number; at 0 and past the last, one that stops.
     pub fn phase_at(self, n: u8) -> Phase
         ensures { result ≡ phase_at self.phases n }
     {
-        if (1 <= n) & (n <= Pump::PHASES) {
-            let phases = self.phases;
-            let i = (n - 1) as usize;
-            return phases[i];
-        }
-        Phase::power_up(0)
+        phase_of(&self.phases, n)
     }
 
     // Another phase of that number; past the last there is none to alter.
     pub fn with_phase(mut self, n: u8, phase: Phase) -> Pump
         ensures { result ≡ with_phase self n phase }
     {
-        if (1 <= n) & (n <= Pump::PHASES) {
-            let i = (n - 1) as usize;
-            self.phases[i] = phase;
+        if 1 <= n && n <= Pump::PHASES {
+            self.phases[n as usize - 1] = phase;
         }
         self
     }
@@ -82,12 +66,8 @@ impl Pump {
     fn renew(mut self) -> Pump
         ensures { result ≡ with_phases self (fresh_phases (phase_count self)) }
     {
-        let mut n: u8 = 0;
-        while n < Pump::PHASES {
-            let i = n as usize;
-            n += 1;
-            let phase = Phase::power_up(n);
-            self.phases[i] = phase;
+        for n in 0..Pump::PHASES {
+            self.phases[n as usize] = Phase::power_up(n + 1);
         }
         self
     }
@@ -97,5 +77,17 @@ impl Pump {
     {
         self.device = device;
         self
+    }
+}
+
+// The phase of a number; at 0 and past the last, one that stops.
+#[inline(always)]
+pub fn phase_of(phases: &[Phase; 41], n: u8) -> Phase
+    ensures { result ≡ phase_at phases.now n }
+{
+    if 1 <= n && n <= Pump::PHASES {
+        phases[n as usize - 1]
+    } else {
+        Phase::power_up(0)
     }
 }

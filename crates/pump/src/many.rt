@@ -4,8 +4,9 @@ ghost use Rattle.std.specs.Prelude.{◌≡◌};
 ghost use Rattle.pump.specs.Calls.{ticks_call, ticks_buffer};
 ghost use Rattle.pump.specs.Going.{Ongoing, Turned};
 
+use crate::checks::is_fit;
 use crate::elapsing::is_alarmed;
-use crate::holder::Pump;
+use crate::holder::{Pump, phase_of};
 use crate::reports::{Refusal, Report};
 use program::Core;
 use words::Phase;
@@ -21,44 +22,25 @@ pub struct Going {
 }
 
 impl Pump {
-    // So many milliseconds, up to 1,000,000. All in one function, with one copy of the phases for the test (that of `Pump::is_sound`) and for
-    // the run: a call that is handed the pump would make another. What is refused runs no tick. In Safe mode the ticks end with the one that
-    // raises an alarm: they run no further than the time limit, and are watched for an alarm of the program where none was pending.
+    // So many milliseconds, up to 1,000,000. One copy of the phases is lent to the test and to the run: a call that is handed the pump
+    // would make another. What is refused runs no tick. In Safe mode the ticks end with the one that raises an alarm: they run no further
+    // than the time limit, and are watched for an alarm of the program where none was pending.
     pub fn ticks(self, n: u32, out: &mut [u8]) -> Report
         ensures { (result ≡ ticks_call self n out.old) × (out.new ≡ ticks_buffer self n out.old) }
     {
         let phases = self.phases;
-        let first = self.device.core.run.place.current;
-        let mut here = Phase::power_up(0);
-        if (1 <= first) & (first <= Pump::PHASES) {
-            let at = (first - 1) as usize;
-            here = phases[at];
-        }
-        let fit = self.device.is_sound(here, Pump::PHASES);
-        let mut i = Pump::PHASES as usize;
-        while 0 < i {
-            let p = phases[i - 1];
-            if !p.is_sound(Pump::PHASES) {
-                break;
-            }
-            i -= 1;
-        }
-        let refusal = Refusal::of_ticks(fit & (i == 0), out.len(), n);
-        let span = if refusal.is_refused() {
+        let refusal = Refusal::of_ticks(is_fit(&phases, self.device), out.len(), n);
+        let span = if refusal.is_some() {
             0
         } else {
             self.device.reach(n)
         };
         let watched = self.device.is_watched();
         let mut going = Going::from(self.device.core, span);
+        // no index loop: a turn takes as many ticks as it may
         while (0 < going.left) & !(watched & is_alarmed(going.core)) {
+            let here = phase_of(&phases, going.core.run.place.current);
             going = turn(going, here);
-            let current = going.core.run.place.current;
-            here = Phase::power_up(0);
-            if (1 <= current) & (current <= Pump::PHASES) {
-                let at = (current - 1) as usize;
-                here = phases[at];
-            }
         }
         self.gone(going, span, refusal, out)
     }
@@ -69,7 +51,7 @@ impl Going {
         ensures { result ≡ record { core = core; left = n; infused = 0; withdrawn = 0; beeps = 0 } }
     {
         Going {
-            core: core,
+            core,
             left: n,
             infused: 0,
             withdrawn: 0,
@@ -86,13 +68,12 @@ fn turn(going: Going, here: Phase) -> Going
 {
     let mut core = going.core;
     let left = going.left;
-    let function = here.function;
-    let hopped = leap::hop(core.run, function, left);
+    let hopped = leap::hop(core.run, here.function, left);
     if 0 < hopped.ticks {
         let run = hopped.run;
         core.run = run;
         return Going {
-            core: core,
+            core,
             left: left - hopped.ticks,
             infused: going.infused,
             withdrawn: going.withdrawn,

@@ -1,6 +1,6 @@
 // What every call hands back, and the refusals.
-ghost use Rattle.std.specs.Prelude.{◌≡◌, true, ◌-◌, ◌≤◌, ◌<◌};
-ghost use Rattle.pump.specs.Reports.{refusal_number, of_pin, of_byte, of_ticks, is_refused};
+ghost use Rattle.std.specs.Prelude.{◌≡◌, true, Some, ◌-◌, ◌≤◌, ◌<◌};
+ghost use Rattle.pump.specs.Reports.{refusal_number, of_pin, of_byte, of_ticks};
 ghost use Rattle.pump.specs.Reports.{unstepped, gone, gone_buffer};
 ghost use Rattle.pump.specs.Going.{moves_in};
 ghost use Rattle.link.specs.Link.{is_sound_link};
@@ -9,82 +9,68 @@ use crate::holder::Pump;
 use crate::many::Going;
 use answer::Frame;
 
-#[derive(Clone, Copy)]
+#[derive(Clone, Copy, PartialEq, Eq, Debug)]
 pub enum Refusal {
-    Accepted,
-    ShortBuffer,
-    NoPin,
-    NoLevel,
-    Unsound,
-    TooManyTicks,
+    ShortBuffer = 1,
+    NoPin = 2,
+    NoLevel = 3,
+    Unsound = 4,
+    TooManyTicks = 5,
 }
 
 impl Refusal {
     // That of a pin's level: the state, then the pin, then the level.
-    pub fn of_pin(sound: bool, pin: u8, level: u8) -> Refusal
+    pub fn of_pin(sound: bool, pin: u8, level: u8) -> Option<Refusal>
         ensures { result ≡ of_pin sound pin level }
     {
         if sound {
             match pin {
                 2 | 4 | 6 => {
                     if 1 < level {
-                        return Refusal::NoLevel;
+                        return Some(Refusal::NoLevel);
                     }
-                    return Refusal::Accepted;
+                    return None;
                 }
-                _ => return Refusal::NoPin,
+                _ => return Some(Refusal::NoPin),
             }
         }
-        Refusal::Unsound
+        Some(Refusal::Unsound)
     }
 
     // That of a byte and of a tick: the state, then the room for an answer.
-    pub fn of_byte(sound: bool, size: usize) -> Refusal
+    pub fn of_byte(sound: bool, size: usize) -> Option<Refusal>
         ensures { result ≡ of_byte sound size }
     {
         if sound {
             if size < answer::ROOM {
-                return Refusal::ShortBuffer;
+                return Some(Refusal::ShortBuffer);
             }
-            return Refusal::Accepted;
+            return None;
         }
-        Refusal::Unsound
+        Some(Refusal::Unsound)
     }
 
     // That of many ticks: the state, then the room for an alarm, then their number.
-    pub fn of_ticks(sound: bool, size: usize, n: u32) -> Refusal
+    pub fn of_ticks(sound: bool, size: usize, n: u32) -> Option<Refusal>
         ensures { result ≡ of_ticks sound size n }
     {
         if sound {
             if answer::ROOM <= size {
                 if leap::MOST_TICKS < n {
-                    return Refusal::TooManyTicks;
+                    return Some(Refusal::TooManyTicks);
                 }
-                return Refusal::Accepted;
+                return None;
             }
-            return Refusal::ShortBuffer;
+            return Some(Refusal::ShortBuffer);
         }
-        Refusal::Unsound
+        Some(Refusal::Unsound)
     }
 
-    pub fn is_refused(self) -> bool
-        ensures { result ≡ is_refused self }
-    {
-        self.number() != 0
-    }
-
-    // The number in the documents' table; 0 where nothing was refused.
+    // The number in the documents' table.
     pub fn number(self) -> u8
-        ensures { result ≡ refusal_number self }
+        ensures { result ≡ refusal_number (Some self) }
     {
-        match self {
-            Refusal::Accepted => 0,
-            Refusal::ShortBuffer => 1,
-            Refusal::NoPin => 2,
-            Refusal::NoLevel => 3,
-            Refusal::Unsound => 4,
-            Refusal::TooManyTicks => 5,
-        }
+        self as u8
     }
 }
 
@@ -98,50 +84,64 @@ pub struct Report {
     pub withdrawn: u32,
     pub beeps: u32,
     pub ticks: u32,
-    pub refusal: Refusal,
+    pub refusal: Option<Refusal>,
     pub output: bool,
+}
+
+impl Report {
+    // The refusal's number in the documents' table; 0 where nothing was refused.
+    pub fn refusal_number(&self) -> u8
+        ensures { result ≡ refusal_number self.now.refusal }
+    {
+        self.refusal.map_or(0, Refusal::number)
+    }
 }
 
 impl Pump {
     // A call that gives no step, with the length of the answer that it wrote. What is refused writes none.
-    pub fn unstepped(self, length: usize, refusal: Refusal) -> Report
+    pub fn unstepped(self, length: usize, refusal: Option<Refusal>) -> Report
         ensures { result ≡ unstepped self length refusal }
     {
         let output = self.device.core.output;
         Report {
             pump: self,
-            length: length,
+            length,
             infused: 0,
             withdrawn: 0,
             beeps: 0,
             ticks: 0,
-            refusal: refusal,
-            output: output,
+            refusal,
+            output,
         }
     }
 
     // The ticks that were done, of `span` that were to be; none where they were refused. Only the last of them can have raised an alarm,
     // which is sent.
-    pub fn gone(mut self, going: Going, span: u32, refusal: Refusal, out: &mut [u8]) -> Report
+    pub fn gone(
+        mut self,
+        going: Going,
+        span: u32,
+        refusal: Option<Refusal>,
+        out: &mut [u8],
+    ) -> Report
         requires { (going.left ≤ span) × (0 < span → is_sound_link self.device.link ≡ true) }
         ensures { (result ≡ gone self (moves_in going) (span - going.left) refusal out.old)
             × (out.new ≡ gone_buffer self (moves_in going) (span - going.left) out.old) }
     {
-        let core = going.core;
         let ticks = span - going.left;
-        let said = self.device.sent_in(ticks, core);
+        let said = self.device.sent_in(ticks, going.core);
         let length = answer::write(Frame::Packet, 0, said, out);
-        let output = core.output;
-        self.device = self.device.after_ticks(ticks, core);
+        let output = going.core.output;
+        self.device = self.device.after_ticks(ticks, going.core);
         Report {
             pump: self,
-            length: length,
+            length,
             infused: going.infused,
             withdrawn: going.withdrawn,
             beeps: going.beeps,
-            ticks: ticks,
-            refusal: refusal,
-            output: output,
+            ticks,
+            refusal,
+            output,
         }
     }
 }

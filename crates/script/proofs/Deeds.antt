@@ -1,26 +1,15 @@
--- Acts that do something, and the one that does not.
+-- The one act that does nothing.
 -- Assumes nothing.
 use mathlib.Core.Path.{◌≡◌, refl}
-use mathlib.Core.Bool.{true, false}
-use Prim.Native.Nat.{ℕ}
-use native.Mathlib.Omega.{arith}
+use mathlib.Core.Bool.{false}
 use Rattle.script.specs.Places.{is_deed}
 use Rattle.script.specs.declared.places.Act.{Act}
 use Rattle.script.specs.declared.places.Act.TheVariants.{Wait, Send, Finish, Set, Run, Complain}
 
--- all but the first case, by which `_` is told
-pub deeds : (a : Act) → (a ≡ Wait → ⊥) → true ≡ is_deed a
-deeds Wait h = absurd (h refl)
-deeds (Send held b) h = refl
-deeds (Finish held) h = refl
-deeds (Set pin level) h = refl
-deeds (Run n) h = refl
-deeds Complain h = refl
-
 pub waits : (a : Act) → is_deed a ≡ false → a ≡ Wait
 waits Wait h = refl
-waits (Send held b) h = let z : ◌≡◌ {A = ℕ} 0 1 = cc in absurd (omega arith)
-waits (Finish held) h = let z : ◌≡◌ {A = ℕ} 0 1 = cc in absurd (omega arith)
-waits (Set pin level) h = let z : ◌≡◌ {A = ℕ} 0 1 = cc in absurd (omega arith)
-waits (Run n) h = let z : ◌≡◌ {A = ℕ} 0 1 = cc in absurd (omega arith)
-waits Complain h = let z : ◌≡◌ {A = ℕ} 0 1 = cc in absurd (omega arith)
+waits (Send held b) h = cc
+waits (Finish held) h = cc
+waits (Set pin level) h = cc
+waits (Run n) h = cc
+waits Complain h = cc

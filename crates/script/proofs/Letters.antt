@@ -2,9 +2,10 @@
 -- Assumes nothing.
 use Prim.Native.Nat.{ℕ, ◌-◌}
 use mathlib.Core.Path.{◌≡◌, sym, ◌∙◌}
-use mathlib.Core.Bool.{Bool, true, false}
+use mathlib.Core.Bool.{true, false}
 use native.Mathlib.Omega.{arith}
 use borrow.Author.Tests.{eq-eqb, ne_eqb}
+use Rattle.std.specs.Prelude.{Option, Some, None, unwrap_or}
 use Rattle.decimal.specs.Read.{is_digit}
 use Rattle.decimal.proofs.Bytes.{digit_yes, digit_low, digit_high}
 use Rattle.script.specs.Numbers.{grown}
@@ -39,7 +40,7 @@ module _ (b : ℕ) where
   unfolding behind_tick
   tick_other n = sym (simp (ne_eqb b 32 n))
 
-  pub edge_blank : b ≡ 32 → Pin false 0 ≡ behind_edge b
+  pub edge_blank : b ≡ 32 → Pin None ≡ behind_edge b
   unfolding behind_edge
   edge_blank e = sym (simp (eq-eqb b 32 e))
 
@@ -57,35 +58,37 @@ module _ (b : ℕ) where
     unfolding in_ticks
     ticks_other d = sym (simp d)
 
-    module _ (pin : ℕ) where
-      pub level_digit : (m : ℕ) → is_digit b ≡ true → m ≡ grown n (b - 48) → Level pin true m ≡ in_level pin n b
+  module _ (n : Option ℕ) where
+    module _ (k : ℕ) (z : k ≡ unwrap_or n 0) where
+      pub level_digit : (pin m : ℕ) → is_digit b ≡ true → m ≡ grown k (b - 48) → Level pin (Some m) ≡ in_level pin n b
       unfolding in_level
-      level_digit m d e = rw e (sym (simp d))
+      level_digit pin m d e = rw (e, z) (sym (simp d))
 
-      pub level_other : is_digit b ≡ false → Bad ≡ in_level pin n b
-      unfolding in_level
-      level_other d = sym (simp d)
-
-    module _ (some : Bool) where
-      pub pin_digit : (m : ℕ) → is_digit b ≡ true → m ≡ grown n (b - 48) → Pin true m ≡ in_pin some n b
+      pub pin_digit : (m : ℕ) → is_digit b ≡ true → m ≡ grown k (b - 48) → Pin (Some m) ≡ in_pin n b
       unfolding in_pin
-      pin_digit m d e = rw e (sym (simp d))
+      pin_digit m d e = rw (e, z) (sym (simp d))
 
-      pub pin_space : (r : Spot) → b ≡ 32 → r ≡ pin_ended some n → r ≡ in_pin some n b
-      unfolding in_pin
-      pin_space r e h = h ∙ sym (simp (digit_low b (omega arith), eq-eqb b 32 e))
+    pub level_other : (pin : ℕ) → is_digit b ≡ false → Bad ≡ in_level pin n b
+    unfolding in_level
+    level_other pin d = sym (simp d)
 
-      pub pin_other : is_digit b ≡ false → (b ≡ 32 → ⊥) → Bad ≡ in_pin some n b
-      unfolding in_pin
-      pin_other d e = sym (simp (d, ne_eqb b 32 e))
+    pub pin_space : (r : Spot) → b ≡ 32 → r ≡ pin_ended n → r ≡ in_pin n b
+    unfolding in_pin
+    pin_space r e h = h ∙ sym (simp (digit_low b (omega arith), eq-eqb b 32 e))
 
-      pub pin_some : some ≡ true → Level n false 0 ≡ pin_ended some n
-      unfolding pin_ended
-      pin_some e = sym (simp e)
+    pub pin_other : is_digit b ≡ false → (b ≡ 32 → ⊥) → Bad ≡ in_pin n b
+    unfolding in_pin
+    pin_other d e = sym (simp (d, ne_eqb b 32 e))
 
-      pub pin_none : some ≡ false → Bad ≡ pin_ended some n
-      unfolding pin_ended
-      pin_none e = sym (simp e)
+-- ---- a blank behind a pin
+module _ (n : Option ℕ) where
+  pub pin_there : (pin : ℕ) → n ≡ Some pin → Level pin None ≡ pin_ended n
+  unfolding pin_ended
+  pin_there pin e = rw e
+
+  pub pin_missing : n ≡ None → Bad ≡ pin_ended n
+  unfolding pin_ended
+  pin_missing e = rw e
 
 pub ruleset bytes = (
   kind_text,
@@ -103,8 +106,8 @@ pub ruleset bytes = (
   pin_digit,
   pin_space,
   pin_other,
-  pin_some,
-  pin_none,
+  pin_there,
+  pin_missing,
   digit_yes,
   digit_low,
   digit_high,

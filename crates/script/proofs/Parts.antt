@@ -1,6 +1,6 @@
 -- What a line of digits and blanks asks for, byte by byte, is what its parts say.
 -- Assumes nothing.
-use Rattle.std.specs.Prelude.{if◌then◌else◌}
+use Rattle.std.specs.Prelude.{if◌then◌else◌, Option, Some, None, unwrap_or}
 use Prim.Native.Nat.{ℕ, ◌+◌, ◌*◌, ◌-◌}
 use mathlib.Core.Path.{◌≡◌, refl, ap, ◌∙◌}
 use mathlib.Core.Bool.{Bool, true, false, ◌&&◌}
@@ -21,16 +21,21 @@ unfoldable pub ticks_act : ℕ → List ℕ → Act
 ticks_act n [] = ticks_asked n
 ticks_act n (b ∷ l) = if is_digit b then ticks_act (n * 10 + (b - 48)) l else Complain
 
-unfoldable pub level_act : ℕ → Bool → ℕ → List ℕ → Act
-level_act pin some n [] = level_asked pin some n
-level_act pin some n (b ∷ l) = if is_digit b then level_act pin true (n * 10 + (b - 48)) l else Complain
+unfoldable pub level_act : ℕ → Option ℕ → List ℕ → Act
+level_act pin n [] = level_asked pin n
+level_act pin n (b ∷ l) = if is_digit b then level_act pin (Some (unwrap_or n 0 * 10 + (b - 48))) l else Complain
 
-unfoldable pub pin_act : Bool → ℕ → List ℕ → Act
-pin_act some n [] = Complain
-pin_act some n (b ∷ l) =
+-- a blank ends a pin that has a digit
+abbrev pub blank_act : Option ℕ → List ℕ → Act
+blank_act None l = Complain
+blank_act (Some pin) l = level_act pin None l
+
+unfoldable pub pin_act : Option ℕ → List ℕ → Act
+pin_act n [] = Complain
+pin_act n (b ∷ l) =
     if is_digit b
-    then pin_act true (n * 10 + (b - 48)) l
-    else if eqb b (letter " ") then (if some then level_act n false 0 l else Complain) else Complain
+    then pin_act (Some (unwrap_or n 0 * 10 + (b - 48))) l
+    else if eqb b (letter " ") then blank_act n l else Complain
 
 -- ---- behind a `T` and behind an `E`: one blank
 abbrev pub tick_act : List ℕ → Act
@@ -39,7 +44,7 @@ tick_act (b ∷ l) = if eqb b (letter " ") then ticks_act 0 l else Complain
 
 abbrev pub edge_act : List ℕ → Act
 edge_act [] = Complain
-edge_act (b ∷ l) = if eqb b (letter " ") then pin_act false 0 l else Complain
+edge_act (b ∷ l) = if eqb b (letter " ") then pin_act None l else Complain
 
 -- ---- choices within choices
 both : (t u : Bool) (x y : Act) → (if t then (if u then x else y) else y) ≡ (if t && u then x else y)
@@ -78,7 +83,7 @@ abbrev set_act : ℕ → ℕ → Act
 set_act pin n = if leb pin most_byte && leb n most_byte then Set pin n else Complain
 
 level_digits :
-    (pin n : ℕ) (l : List ℕ) → level_act pin true n l ≡ (if only_digits l then set_act pin (value_from n l) else Complain)
+    (pin n : ℕ) (l : List ℕ) → level_act pin (Some n) l ≡ (if only_digits l then set_act pin (value_from n l) else Complain)
 unfolding level_act level_asked
 level_digits pin n [] = refl
 level_digits pin n (b ∷ l) =
@@ -86,7 +91,7 @@ level_digits pin n (b ∷ l) =
     ∙ both (is_digit b) (only_digits l) (set_act pin (value_from n (b ∷ l))) Complain
 
 level_number :
-    (pin : ℕ) (l : List ℕ) → level_act pin false 0 l ≡ (if is_number l then set_act pin (value_of l) else Complain)
+    (pin : ℕ) (l : List ℕ) → level_act pin None l ≡ (if is_number l then set_act pin (value_of l) else Complain)
 unfolding level_act level_asked
 level_number pin [] = refl
 level_number pin (b ∷ l) =
@@ -101,8 +106,8 @@ digit_no_blank b e =
 
 pin_digits :
     (n : ℕ) (s : List ℕ)
-    → pin_act true n s
-    ≡ (if only_digits (up_to_blank s) then level_act (value_from n (up_to_blank s)) false 0 (past_blank s) else Complain)
+    → pin_act (Some n) s
+    ≡ (if only_digits (up_to_blank s) then level_act (value_from n (up_to_blank s)) None (past_blank s) else Complain)
 unfolding pin_act level_act level_asked
 pin_digits n [] = refl
 pin_digits n (b ∷ s) = go (is_digit b) (eqb b (letter " ")) refl refl (pin_digits (n * 10 + (b - 48)) s)
@@ -111,13 +116,13 @@ pin_digits n (b ∷ s) = go (is_digit b) (eqb b (letter " ")) refl refl (pin_dig
         (t u : Bool)
         → is_digit b ≡ t
         → eqb b (letter " ") ≡ u
-        → pin_act true (n * 10 + (b - 48)) s
+        → pin_act (Some (n * 10 + (b - 48))) s
         ≡ (if only_digits (up_to_blank s)
-        then level_act (value_from (n * 10 + (b - 48)) (up_to_blank s)) false 0 (past_blank s)
+        then level_act (value_from (n * 10 + (b - 48)) (up_to_blank s)) None (past_blank s)
         else Complain)
-        → pin_act true n (b ∷ s)
+        → pin_act (Some n) (b ∷ s)
         ≡ (if only_digits (up_to_blank (b ∷ s))
-        then level_act (value_from n (up_to_blank (b ∷ s))) false 0 (past_blank (b ∷ s))
+        then level_act (value_from n (up_to_blank (b ∷ s))) None (past_blank (b ∷ s))
         else Complain)
     go true u e f ih = rw (e, digit_no_blank b e) (rw e ih)
     go false true e f ih = rw (e, f)
@@ -125,7 +130,7 @@ pin_digits n (b ∷ s) = go (is_digit b) (eqb b (letter " ")) refl refl (pin_dig
 
 pin_number :
     (s : List ℕ)
-    → pin_act false 0 s ≡ (if is_number (up_to_blank s) then level_act (value_of (up_to_blank s)) false 0 (past_blank s) else Complain)
+    → pin_act None s ≡ (if is_number (up_to_blank s) then level_act (value_of (up_to_blank s)) None (past_blank s) else Complain)
 unfolding pin_act
 pin_number [] = refl
 pin_number (b ∷ s) = go (is_digit b) (eqb b (letter " ")) refl refl
@@ -134,9 +139,9 @@ pin_number (b ∷ s) = go (is_digit b) (eqb b (letter " ")) refl refl
         (t u : Bool)
         → is_digit b ≡ t
         → eqb b (letter " ") ≡ u
-        → pin_act false 0 (b ∷ s)
+        → pin_act None (b ∷ s)
         ≡ (if is_number (up_to_blank (b ∷ s))
-        then level_act (value_of (up_to_blank (b ∷ s))) false 0 (past_blank (b ∷ s))
+        then level_act (value_of (up_to_blank (b ∷ s))) None (past_blank (b ∷ s))
         else Complain)
     go true u e f = rw (e, digit_no_blank b e) (rw e (pin_digits (0 * 10 + (b - 48)) s))
     go false true e f = rw (e, f)
@@ -147,7 +152,7 @@ level_test pin high = is_number pin && is_number high && leb (value_of pin) most
 
 pub level_parts :
     (s : List ℕ)
-    → pin_act false 0 s
+    → pin_act None s
     ≡ (if level_test (up_to_blank s) (past_blank s) then Set (value_of (up_to_blank s)) (value_of (past_blank s)) else Complain)
 level_parts s =
     let pin = up_to_blank s in

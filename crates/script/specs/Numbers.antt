@@ -1,5 +1,5 @@
 -- The numbers of an item, as their digits come, and what they ask for.   (01, Marked figures: the bench program; docs/DECISIONS.md, 30)
-use Rattle.std.specs.Prelude.{ℕ, ◌+◌, ◌*◌, Bool, ◌&&◌, leb, ltb, if◌then◌else◌}
+use Rattle.std.specs.Prelude.{ℕ, ◌+◌, ◌*◌, ◌&&◌, leb, ltb, if◌then◌else◌, Option, Some, None}
 use Rattle.script.specs.declared.places.Act.{Act}
 use Rattle.script.specs.declared.places.Act.TheVariants.{Set, Run, Complain}
 
@@ -20,5 +20,6 @@ unfoldable pub ticks_asked : ℕ → Act
 ticks_asked n = if leb 1 n && leb n most_ticks then Run n else Complain
 
 -- `E pin level`: both were written, and each fits the call; any number too large is `!`
-unfoldable pub level_asked : ℕ → Bool → ℕ → Act
-level_asked pin some level = if some && leb pin most_byte && leb level most_byte then Set pin level else Complain
+unfoldable pub level_asked : ℕ → Option ℕ → Act
+level_asked pin None = Complain
+level_asked pin (Some level) = if leb pin most_byte && leb level most_byte then Set pin level else Complain

@@ -1,7 +1,7 @@
 -- Where in a line the input stands, and what a byte asks for there: how the program reads, a byte at a time. What an input says stands
 -- in Items, line by line, and `itemised` (player/proofs/Itemised.antt) says that the two are the same.   (01, Marked figures: the bench
 -- program; docs/DECISIONS.md, 29 to 31)
-use Rattle.std.specs.Prelude.{ℕ, ◌-◌, Bool, true, false, eqb, if◌then◌else◌}
+use Rattle.std.specs.Prelude.{ℕ, ◌-◌, Bool, true, false, eqb, if◌then◌else◌, Option, Some, None, unwrap_or}
 use Rattle.base.specs.Text.{letter}
 use Rattle.decimal.specs.Read.{is_digit}
 use Rattle.script.specs.Numbers.{grown, ticks_asked, level_asked}
@@ -34,8 +34,8 @@ line_end (Text held) = act.Finish false
 line_end Tick = act.Complain
 line_end (Ticks n) = ticks_asked n
 line_end Edge = act.Complain
-line_end (Pin some n) = act.Complain
-line_end (Level pin some n) = level_asked pin some n
+line_end (Pin n) = act.Complain
+line_end (Level pin n) = level_asked pin n
 line_end (Returned a) = a
 line_end Bad = act.Complain
 
@@ -46,8 +46,8 @@ input_end (Text held) = act.Finish held
 input_end Tick = act.Complain
 input_end (Ticks n) = ticks_asked n
 input_end Edge = act.Complain
-input_end (Pin some n) = act.Complain
-input_end (Level pin some n) = level_asked pin some n
+input_end (Pin n) = act.Complain
+input_end (Level pin n) = level_asked pin n
 input_end (Returned a) = act.Complain
 input_end Bad = act.Complain
 
@@ -59,8 +59,8 @@ returned (Text held) = Text true
 returned Tick = Bad
 returned (Ticks n) = Returned (ticks_asked n)
 returned Edge = Bad
-returned (Pin some n) = Bad
-returned (Level pin some n) = Returned (level_asked pin some n)
+returned (Pin n) = Bad
+returned (Level pin n) = Returned (level_asked pin n)
 returned (Returned a) = Bad
 returned Bad = Bad
 
@@ -71,8 +71,8 @@ returned_act (Text held) = if held then act.Send false carriage_return else act.
 returned_act Tick = act.Wait
 returned_act (Ticks n) = act.Wait
 returned_act Edge = act.Wait
-returned_act (Pin some n) = act.Wait
-returned_act (Level pin some n) = act.Wait
+returned_act (Pin n) = act.Wait
+returned_act (Level pin n) = act.Wait
 returned_act (Returned a) = act.Wait
 returned_act Bad = act.Wait
 
@@ -89,18 +89,21 @@ unfoldable pub in_ticks : ℕ → ℕ → Spot
 in_ticks n b = if is_digit b then Ticks (grown n (b - 48)) else Bad
 
 unfoldable pub behind_edge : ℕ → Spot
-behind_edge b = if eqb b (letter " ") then Pin false 0 else Bad
+behind_edge b = if eqb b (letter " ") then Pin None else Bad
 
 -- a pin has at least one digit
-unfoldable pub pin_ended : Bool → ℕ → Spot
-pin_ended some n = if some then Level n false 0 else Bad
+unfoldable pub pin_ended : Option ℕ → Spot
+pin_ended None = Bad
+pin_ended (Some pin) = Level pin None
 
-unfoldable pub in_pin : Bool → ℕ → ℕ → Spot
-in_pin some n b =
-    if is_digit b then Pin true (grown n (b - 48)) else if eqb b (letter " ") then pin_ended some n else Bad
+unfoldable pub in_pin : Option ℕ → ℕ → Spot
+in_pin n b =
+    if is_digit b
+    then Pin (Some (grown (unwrap_or n 0) (b - 48)))
+    else if eqb b (letter " ") then pin_ended n else Bad
 
-unfoldable pub in_level : ℕ → ℕ → ℕ → Spot
-in_level pin n b = if is_digit b then Level pin true (grown n (b - 48)) else Bad
+unfoldable pub in_level : ℕ → Option ℕ → ℕ → Spot
+in_level pin n b = if is_digit b then Level pin (Some (grown (unwrap_or n 0) (b - 48))) else Bad
 
 abbrev pub next : Spot → ℕ → Spot
 next Start b = kind b
@@ -108,8 +111,8 @@ next (Text held) b = Text false
 next Tick b = behind_tick b
 next (Ticks n) b = in_ticks n b
 next Edge b = behind_edge b
-next (Pin some n) b = in_pin some n b
-next (Level pin some n) b = in_level pin n b
+next (Pin n) b = in_pin n b
+next (Level pin n) b = in_level pin n b
 next (Returned a) b = Bad
 next Bad b = Bad
 
@@ -120,8 +123,8 @@ act_on (Text held) b = act.Send held b
 act_on Tick b = act.Wait
 act_on (Ticks n) b = act.Wait
 act_on Edge b = act.Wait
-act_on (Pin some n) b = act.Wait
-act_on (Level pin some n) b = act.Wait
+act_on (Pin n) b = act.Wait
+act_on (Level pin n) b = act.Wait
 act_on (Returned a) b = act.Wait
 act_on Bad b = act.Wait
 

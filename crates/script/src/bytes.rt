@@ -39,36 +39,36 @@ pub fn behind_edge(b: u8) -> Spot
     ensures { result ≡ behind_edge b }
 {
     if b == b' ' {
-        return Spot::Pin(false, 0);
+        return Spot::Pin(None);
     }
     Spot::Bad
 }
 
-pub fn in_pin(some: bool, n: u32, b: u8) -> Spot
-    ensures { result ≡ in_pin some n b }
+pub fn in_pin(n: Option<u32>, b: u8) -> Spot
+    ensures { result ≡ in_pin n b }
 {
     match b {
-        b'0'..=b'9' => Spot::Pin(true, grown(n, b - b'0')),
-        b' ' => pin_ended(some, n),
+        b'0'..=b'9' => Spot::Pin(Some(grown(n.unwrap_or(0), b - b'0'))),
+        b' ' => pin_ended(n),
         _ => Spot::Bad,
     }
 }
 
 // A blank ends a pin that has a digit.
-fn pin_ended(some: bool, n: u32) -> Spot
-    ensures { result ≡ pin_ended some n }
+fn pin_ended(n: Option<u32>) -> Spot
+    ensures { result ≡ pin_ended n }
 {
-    if some {
-        return Spot::Level(n, false, 0);
+    match n {
+        Some(pin) => Spot::Level(pin, None),
+        None => Spot::Bad,
     }
-    Spot::Bad
 }
 
-pub fn in_level(pin: u32, n: u32, b: u8) -> Spot
+pub fn in_level(pin: u32, n: Option<u32>, b: u8) -> Spot
     ensures { result ≡ in_level pin n b }
 {
     match b {
-        b'0'..=b'9' => Spot::Level(pin, true, grown(n, b - b'0')),
+        b'0'..=b'9' => Spot::Level(pin, Some(grown(n.unwrap_or(0), b - b'0'))),
         _ => Spot::Bad,
     }
 }

@@ -24,18 +24,20 @@ pub fn grown(n: u32, d: u8) -> u32
 pub fn ticks_asked(n: u32) -> Act
     ensures { result ≡ ticks_asked n }
 {
-    if (1 <= n) & (n <= MOST_TICKS) {
-        return Act::Run(n);
+    match n {
+        1..=MOST_TICKS => Act::Run(n),
+        _ => Act::Complain,
     }
-    Act::Complain
 }
 
 // E pin level: whatever the call can be handed; the call itself refuses what is no pin and no level.
-pub fn level_asked(pin: u32, some: bool, level: u32) -> Act
-    ensures { result ≡ level_asked pin some level }
+pub fn level_asked(pin: u32, level: Option<u32>) -> Act
+    ensures { result ≡ level_asked pin level }
 {
-    if some & (pin <= MOST_BYTE) & (level <= MOST_BYTE) {
-        return Act::Set(pin as u8, level as u8);
+    match level {
+        Some(level) if pin <= MOST_BYTE && level <= MOST_BYTE => {
+            Act::Set(pin as u8, level as u8)
+        }
+        _ => Act::Complain,
     }
-    Act::Complain
 }

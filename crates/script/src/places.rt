@@ -3,8 +3,8 @@ ghost use Rattle.std.specs.Prelude.{◌≡◌};
 ghost use Rattle.script.specs.Places.{is_deed};
 
 // What is to be done: nothing, send a byte (behind a return that was held back), end a text (likewise), set a pin, run ticks, say
-// that there is no such item.
-#[derive(Clone, Copy)]
+// that there is no such item. A return is held back or not beside the byte, and tells nothing of whether there is one.
+#[derive(Clone, Copy, PartialEq, Eq, Debug)]
 pub enum Act {
     Wait,
     Send(bool, u8),
@@ -19,30 +19,27 @@ impl Act {
     pub fn is_deed(self) -> bool
         ensures { result ≡ is_deed self }
     {
-        match self {
-            Act::Wait => false,
-            _ => true,
-        }
+        !matches!(self, Act::Wait)
     }
 }
 
 // Before a line; in a text, and whether a return is held back, since it may belong to the line's end; behind a `T`, in its number;
-// behind an `E`, in its pin and in its level, each with whether a digit came; behind a return that may belong to the line's end,
-// with what the line then asks for; in a line that is no item.
-#[derive(Clone, Copy)]
+// behind an `E`, in its pin and in its level, none of which is there before its first digit; behind a return that may belong to the
+// line's end, with what the line then asks for; in a line that is no item.
+#[derive(Clone, Copy, PartialEq, Eq, Debug)]
 pub enum Spot {
     Start,
     Text(bool),
     Tick,
     Ticks(u32),
     Edge,
-    Pin(bool, u32),
-    Level(u32, bool, u32),
+    Pin(Option<u32>),
+    Level(u32, Option<u32>),
     Returned(Act),
     Bad,
 }
 
-#[derive(Clone, Copy)]
+#[derive(Clone, Copy, PartialEq, Eq, Debug)]
 pub struct Step {
     pub place: Spot,
     pub act: Act,

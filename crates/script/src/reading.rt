@@ -32,15 +32,11 @@ impl Spot {
         ensures { result ≡ line_end self }
     {
         match self {
-            Spot::Start => Act::Complain,
             Spot::Text(_) => Act::Finish(false),
-            Spot::Tick => Act::Complain,
             Spot::Ticks(n) => ticks_asked(n),
-            Spot::Edge => Act::Complain,
-            Spot::Pin(_, _) => Act::Complain,
-            Spot::Level(pin, some, level) => level_asked(pin, some, level),
+            Spot::Level(pin, level) => level_asked(pin, level),
             Spot::Returned(act) => act,
-            Spot::Bad => Act::Complain,
+            Spot::Start | Spot::Tick | Spot::Edge | Spot::Pin(_) | Spot::Bad => Act::Complain,
         }
     }
 
@@ -51,13 +47,9 @@ impl Spot {
         match self {
             Spot::Start => Act::Wait,
             Spot::Text(held) => Act::Finish(held),
-            Spot::Tick => Act::Complain,
             Spot::Ticks(n) => ticks_asked(n),
-            Spot::Edge => Act::Complain,
-            Spot::Pin(_, _) => Act::Complain,
-            Spot::Level(pin, some, level) => level_asked(pin, some, level),
-            Spot::Returned(_) => Act::Complain,
-            Spot::Bad => Act::Complain,
+            Spot::Level(pin, level) => level_asked(pin, level),
+            Spot::Tick | Spot::Edge | Spot::Pin(_) | Spot::Returned(_) | Spot::Bad => Act::Complain,
         }
     }
 
@@ -66,21 +58,10 @@ impl Spot {
         ensures { result ≡ returned self }
     {
         match self {
-            Spot::Start => Spot::Bad,
             Spot::Text(_) => Spot::Text(true),
-            Spot::Tick => Spot::Bad,
-            Spot::Ticks(n) => {
-                let act = ticks_asked(n);
-                Spot::Returned(act)
-            }
-            Spot::Edge => Spot::Bad,
-            Spot::Pin(_, _) => Spot::Bad,
-            Spot::Level(pin, some, level) => {
-                let act = level_asked(pin, some, level);
-                Spot::Returned(act)
-            }
-            Spot::Returned(_) => Spot::Bad,
-            Spot::Bad => Spot::Bad,
+            Spot::Ticks(n) => Spot::Returned(ticks_asked(n)),
+            Spot::Level(pin, level) => Spot::Returned(level_asked(pin, level)),
+            _ => Spot::Bad,
         }
     }
 
@@ -89,20 +70,8 @@ impl Spot {
         ensures { result ≡ returned_act self }
     {
         match self {
-            Spot::Start => Act::Wait,
-            Spot::Text(held) => {
-                if held {
-                    return Act::Send(false, b'\r');
-                }
-                Act::Wait
-            }
-            Spot::Tick => Act::Wait,
-            Spot::Ticks(_) => Act::Wait,
-            Spot::Edge => Act::Wait,
-            Spot::Pin(_, _) => Act::Wait,
-            Spot::Level(_, _, _) => Act::Wait,
-            Spot::Returned(_) => Act::Wait,
-            Spot::Bad => Act::Wait,
+            Spot::Text(true) => Act::Send(false, b'\r'),
+            _ => Act::Wait,
         }
     }
 
@@ -116,10 +85,9 @@ impl Spot {
             Spot::Tick => behind_tick(b),
             Spot::Ticks(n) => in_ticks(n, b),
             Spot::Edge => behind_edge(b),
-            Spot::Pin(some, n) => in_pin(some, n, b),
-            Spot::Level(pin, _, n) => in_level(pin, n, b),
-            Spot::Returned(_) => Spot::Bad,
-            Spot::Bad => Spot::Bad,
+            Spot::Pin(n) => in_pin(n, b),
+            Spot::Level(pin, n) => in_level(pin, n, b),
+            Spot::Returned(_) | Spot::Bad => Spot::Bad,
         }
     }
 
@@ -128,15 +96,8 @@ impl Spot {
         ensures { result ≡ act_on self b }
     {
         match self {
-            Spot::Start => Act::Wait,
             Spot::Text(held) => Act::Send(held, b),
-            Spot::Tick => Act::Wait,
-            Spot::Ticks(_) => Act::Wait,
-            Spot::Edge => Act::Wait,
-            Spot::Pin(_, _) => Act::Wait,
-            Spot::Level(_, _, _) => Act::Wait,
-            Spot::Returned(_) => Act::Wait,
-            Spot::Bad => Act::Wait,
+            _ => Act::Wait,
         }
     }
 }

@@ -2,9 +2,9 @@
 ghost use Rattle.std.specs.Prelude.{◌≤◌, length};
 
 use crate::places::{Ask, MOST_DATA, Place};
-use crate::printing::{byte_line, room, ticks_line};
+use crate::printing::{byte_line, ticks_line};
 use player::{Elapsed, Rig};
-use pump::{Pump, Refusal};
+use pump::Pump;
 use script::{Act, Spot};
 use std::io;
 use std::io::Write;
@@ -26,21 +26,15 @@ impl Desk {
 
     // One byte of the input.
     pub fn take(self, b: u8, held: &mut [u8], output: &mut impl Write) -> io::Result<Desk> {
-        let place = self.place;
-        let turn = place.after(b, held);
+        let turn = self.place.after(b, held);
         let next = turn.place;
-        let ask = turn.ask;
-        let rig = done(self.rig, ask, held, output)?;
-        Ok(Desk {
-            rig: rig,
-            place: next,
-        })
+        let rig = done(self.rig, turn.ask, held, output)?;
+        Ok(Desk { rig, place: next })
     }
 
     // The end of the input.
     pub fn close(self, held: &[u8], output: &mut impl Write) -> io::Result<()> {
-        let place = self.place;
-        done(self.rig, place.input_end(), held, output)?;
+        done(self.rig, self.place.input_end(), held, output)?;
         Ok(())
     }
 }
@@ -49,9 +43,15 @@ fn done(rig: Rig, ask: Ask, held: &[u8], output: &mut impl Write) -> io::Result<
     match ask {
         Ask::Bench(act) => acted(rig, act, output),
         Ask::Elapse(n) => elapsed(rig, n, output),
-        Ask::Bytes(n) => sent(rig, held, n, output),
-        Ask::Packet(n) => packed(rig, held, n, output),
+        Ask::Bytes(n) => sent(rig, first(held, n), output),
+        Ask::Packet(n) if n <= held.len() => packed(rig, &held[..n], output),
+        Ask::Packet(_) => acted(rig, Act::Complain, output),
     }
+}
+
+// The first `n` bytes that are held.
+fn first(held: &[u8], n: usize) -> &[u8] {
+    &held[..n.min(held.len())]
 }
 
 // What the bench program does too.
@@ -59,25 +59,20 @@ fn acted(rig: Rig, act: Act, output: &mut impl Write) -> io::Result<Rig> {
     if !act.is_deed() {
         return Ok(rig);
     }
-    let mut out = room();
-    let acted = rig.act(act, &mut out, 0);
-    let end = acted.end;
-    output.write_all(&out[..end])?;
+    let acted = rig.act(act);
+    output.write_all(acted.lines.as_slice())?;
     Ok(acted.rig)
 }
 
 // Ticks: their steps, beeps and the level of the output behind them; then the packets that they sent.
 fn elapsed(rig: Rig, n: u32, output: &mut impl Write) -> io::Result<Rig> {
     let elapsed = player::elapse(rig.pump, n);
-    let mut out = room();
-    let end = ticks_line(n, elapsed, &mut out);
-    output.write_all(&out[..end])?;
+    output.write_all(ticks_line(n, elapsed).as_slice())?;
     if elapsed.sent {
         packets(rig.pump, n, output)?;
     }
-    let pump = elapsed.pump;
     Ok(Rig {
-        pump: pump,
+        pump: elapsed.pump,
         replied: rig.replied,
     })
 }
@@ -87,40 +82,35 @@ fn elapsed(rig: Rig, n: u32, output: &mut impl Write) -> io::Result<Rig> {
 fn packets(pump: Pump, n: u32, output: &mut impl Write) -> io::Result<()> {
     let mut now = pump;
     let mut left = n;
+    // no index loop: a step is what a call leaves of the ticks
     while 0 < left {
         let mut packet = [0u8; 24];
         let report = now.ticks(player::portion(left), &mut packet);
-        let refusal = report.refusal;
-        if refusal.is_refused() {
+        if report.refusal.is_some() {
             break;
         }
-        let length = report.length;
-        answered(false, &packet[..length], output)?;
+        answered(false, &packet[..report.length], output)?;
         left -= report.ticks;
         now = report.pump;
     }
     Ok(())
 }
 
-// The first `n` bytes that are held, as the data of one good packet, sent byte by byte. More than a packet has are no item.
-fn packed(rig: Rig, held: &[u8], n: usize, output: &mut impl Write) -> io::Result<Rig> {
-    if n <= MOST_DATA {
-        if n <= held.len() {
-            let mut packet = [0u8; 45];
-            let end = packet::send(&held[..n], &mut packet, 0);
-            return sent(rig, &packet, end, output);
-        }
+// The data of one good packet, which is sent byte by byte. More than a packet has are no item.
+fn packed(rig: Rig, data: &[u8], output: &mut impl Write) -> io::Result<Rig> {
+    if MOST_DATA < data.len() {
+        return acted(rig, Act::Complain, output);
     }
-    acted(rig, Act::Complain, output)
+    let mut packet = [0u8; 45];
+    let end = packet::send(data, &mut packet, 0);
+    sent(rig, &packet[..end], output)
 }
 
-// The first `n` bytes that are held, one after the other: each answer is a line, and `-` stands for none at all.
-fn sent(rig: Rig, held: &[u8], n: usize, output: &mut impl Write) -> io::Result<Rig> {
+// Bytes, one after the other: each answer is a line, and `-` stands for none at all.
+fn sent(rig: Rig, bytes: &[u8], output: &mut impl Write) -> io::Result<Rig> {
     let mut now = unanswered(rig.pump);
-    let mut i = 0;
-    while (i < n) & (i < held.len()) {
-        now = byte_sent(now, held[i], output)?;
-        i += 1;
+    for b in bytes {
+        now = byte_sent(now, *b, output)?;
     }
     if !now.replied {
         output.write_all(b"-\n")?;
@@ -132,12 +122,9 @@ fn sent(rig: Rig, held: &[u8], n: usize, output: &mut impl Write) -> io::Result<
 fn byte_sent(rig: Rig, b: u8, output: &mut impl Write) -> io::Result<Rig> {
     let mut answer = [0u8; 24];
     let report = rig.pump.byte(b, &mut answer);
-    let refusal = report.refusal;
-    let n = report.length;
-    let told = answered(refusal.is_refused(), &answer[..n], output)?;
-    let pump = report.pump;
+    let told = answered(report.refusal.is_some(), &answer[..report.length], output)?;
     Ok(Rig {
-        pump: pump,
+        pump: report.pump,
         replied: rig.replied | told,
     })
 }
@@ -146,15 +133,14 @@ fn byte_sent(rig: Rig, b: u8, output: &mut impl Write) -> io::Result<Rig> {
 fn answered(refused: bool, answer: &[u8], output: &mut impl Write) -> io::Result<bool>
     requires { length answer.now ≤ 24 }
 {
-    let mut out = room();
-    let end = byte_line(refused, answer, &mut out);
-    output.write_all(&out[..end])?;
-    Ok(0 < end)
+    let line = byte_line(refused, answer);
+    output.write_all(line.as_slice())?;
+    Ok(!line.is_empty())
 }
 
 fn unanswered(pump: Pump) -> Rig {
     Rig {
-        pump: pump,
+        pump,
         replied: false,
     }
 }

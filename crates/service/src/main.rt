@@ -34,6 +34,7 @@ fn main(rt: HostRuntime) -> io::Result<()> {
     output.flush()
 }
 
+// The desk is there either way, so that the two stay a pair.
 #[derive(Clone, Copy)]
 struct Served {
     desk: Desk,
@@ -52,7 +53,7 @@ fn serve(
     let desk = play(desk, &space[..n], held, output)?;
     output.flush()?;
     Ok(Served {
-        desk: desk,
+        desk,
         ended: n == 0,
     })
 }

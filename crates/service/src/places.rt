@@ -13,7 +13,7 @@ pub const MOST_DATA: usize = 40;
 
 // What is to be done: what the bench program would do; let so many ticks pass; send so many of the bytes that are held, as they are or as
 // the data of a packet.
-#[derive(Clone, Copy)]
+#[derive(Clone, Copy, PartialEq, Eq, Debug)]
 pub enum Ask {
     Bench(Act),
     Elapse(u32),
@@ -21,15 +21,15 @@ pub enum Ask {
     Packet(usize),
 }
 
-// In a line that the bench program has too; behind a `T`, and in its number, with whether a digit came; behind a `B`, between two bytes,
-// with how many are held, and behind the first digit of a byte; in the text of a `P` line, with how many bytes are held, and how many of
-// them are the text if the line ends here: a return that stands last then belongs to its end; behind a return that may belong to the end of
-// another line, with what the line then asks for.
-#[derive(Clone, Copy)]
+// In a line that the bench program has too; behind a `T`, and in its number, which is none before its first digit; behind a `B`, between
+// two bytes, with how many are held, and behind the first digit of a byte; in the text of a `P` line, with how many bytes are held, and how
+// many of them are the text if the line ends here: a return that stands last then belongs to its end; behind a return that may belong to
+// the end of another line, with what the line then asks for.
+#[derive(Clone, Copy, PartialEq, Eq, Debug)]
 pub enum Place {
     Line(Spot),
     Tick,
-    Ticks(bool, u32),
+    Ticks(Option<u32>),
     Byte,
     Bytes(usize),
     Half(usize, u8),
@@ -37,7 +37,7 @@ pub enum Place {
     Returned(Ask),
 }
 
-#[derive(Clone, Copy)]
+#[derive(Clone, Copy, PartialEq, Eq, Debug)]
 pub struct Turn {
     pub place: Place,
     pub ask: Ask,
@@ -83,12 +83,7 @@ impl Place {
     // What the line asks for if it is whole.
     fn asked(self) -> Ask {
         match self {
-            Place::Ticks(some, n) => {
-                if some & (n <= MOST_TICKS) {
-                    return Ask::Elapse(n);
-                }
-                Ask::Bench(Act::Complain)
-            }
+            Place::Ticks(Some(n)) if n <= MOST_TICKS => Ask::Elapse(n),
             Place::Byte => Ask::Bytes(0),
             Place::Bytes(n) => Ask::Bytes(n),
             _ => Ask::Bench(Act::Complain),
@@ -109,12 +104,12 @@ impl Place {
         match self {
             Place::Tick => {
                 if b == b' ' {
-                    return Place::Ticks(false, 0);
+                    return Place::Ticks(None);
                 }
                 Place::Line(Spot::Bad)
             }
-            Place::Ticks(_, n) => match b {
-                b'0'..=b'9' => Place::Ticks(true, script::grown(n, b - b'0')),
+            Place::Ticks(n) => match b {
+                b'0'..=b'9' => Place::Ticks(Some(script::grown(n.unwrap_or(0), b - b'0'))),
                 _ => Place::Line(Spot::Bad),
             },
             Place::Byte => {
@@ -141,11 +136,9 @@ fn in_line(spot: Spot, b: u8) -> Turn {
         }
     }
     let step = spot.after(b);
-    let place = step.place;
-    let act = step.act;
     Turn {
-        place: Place::Line(place),
-        ask: Ask::Bench(act),
+        place: Place::Line(step.place),
+        ask: Ask::Bench(step.act),
     }
 }
 
@@ -162,7 +155,7 @@ fn in_text(n: usize, text: usize, b: u8, held: &mut [u8]) -> Turn {
 
 fn waiting(place: Place) -> Turn {
     Turn {
-        place: place,
+        place,
         ask: Ask::Bench(Act::Wait),
     }
 }
@@ -172,30 +165,30 @@ fn between(n: usize, b: u8) -> Place {
     if b == b' ' {
         return Place::Bytes(n);
     }
-    let digit = digit(b);
-    if digit < 16 {
-        return Place::Half(n, digit);
+    match digit(b) {
+        Some(high) => Place::Half(n, high),
+        None => Place::Line(Spot::Bad),
     }
-    Place::Line(Spot::Bad)
 }
 
 // The second digit of a byte, which is held; more bytes than there is room for are no item.
 fn whole(n: usize, high: u8, b: u8, held: &mut [u8]) -> Place
     ensures { (result ≡ whole_place n high b held.old) × (held.new ≡ whole_held n high b held.old) }
 {
-    let low = digit(b);
-    if (low < 16) & (high < 16) & (n < held.len()) {
-        held[n] = high * 16 + low;
-        return Place::Bytes(n + 1);
+    match digit(b) {
+        Some(low) if high < 16 && n < held.len() => {
+            held[n] = high * 16 + low;
+            Place::Bytes(n + 1)
+        }
+        _ => Place::Line(Spot::Bad),
     }
-    Place::Line(Spot::Bad)
 }
 
 // A byte of a text, which is held: the data of a packet, and a return behind them. A text with more is no item.
 fn kept(n: usize, b: u8, held: &mut [u8]) -> Place
     ensures { (result ≡ kept_place n b held.old) × (held.new ≡ kept_held n b held.old) }
 {
-    if (n <= MOST_DATA) & (n < held.len()) {
+    if n <= MOST_DATA && n < held.len() {
         held[n] = b;
         return Place::Text(n + 1, text_end(n, b));
     }
@@ -213,14 +206,14 @@ fn text_end(n: usize, b: u8) -> usize
     n + 1
 }
 
-// The value of a hexadecimal digit in either case; 16 of what is none.
-fn digit(b: u8) -> u8
+// The value of a hexadecimal digit in either case.
+fn digit(b: u8) -> Option<u8>
     ensures { result ≡ digit_value b }
 {
     match b {
-        b'0'..=b'9' => b - b'0',
-        b'a'..=b'f' => b - b'a' + 10,
-        b'A'..=b'F' => b - b'A' + 10,
-        _ => 16,
+        b'0'..=b'9' => Some(b - b'0'),
+        b'a'..=b'f' => Some(b - b'a' + 10),
+        b'A'..=b'F' => Some(b - b'A' + 10),
+        _ => None,
     }
 }

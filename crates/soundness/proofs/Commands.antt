@@ -1,6 +1,7 @@
 -- A command whose number is writable keeps a sound core and its phases sound.
 -- Assumes nothing.
-use Rattle.std.specs.Prelude.{if◌then◌else◌}
+use Rattle.std.specs.Prelude.{Option, is_none, Result, Ok, Err, is_ok, ⊤, if◌then◌else◌, Some, None}
+use Rattle.std.specs.Result.{result_unwrap_or}
 use Prim.Native.Nat.{ℕ, ◌≤◌}
 use mathlib.Core.Path.{◌≡◌, refl, sym, ap, subst, ◌∙◌}
 use mathlib.Core.Bool.{Bool, true, false, ◌&&◌, not}
@@ -14,16 +15,17 @@ use Rattle.drive.specs.Rates.{is_usable}
 use Rattle.drive.specs.Syringe.{is_diameter}
 use Rattle.drive.specs.Directions.{reverse}
 use Rattle.drive.specs.declared.directions.Direction.{Direction}
+use Rattle.drive.specs.declared.rates.RateUnit.{RateUnit}
 use Rattle.words.specs.Commands.{amount}
 use Rattle.words.specs.Functions.{fits, is_phase, is_flow, is_ramp, is_rate_phase}
 use Rattle.words.specs.Phases.{is_sound_phase}
+use Rattle.words.specs.declared.answers.Declined.{Declined}
+use Rattle.words.specs.declared.answers.Declined.TheVariants.{NotApplicable, OutOfRange}
 use Rattle.words.specs.declared.commands.Command.{Command}
 use Rattle.words.specs.declared.commands.Command.TheVariants as c
-use Rattle.words.specs.declared.commands.Units.{Units}
 use Rattle.words.specs.declared.functions.Function.{Function}
 use Rattle.words.specs.declared.phases.Phase.{Phase}
 use Rattle.dispense.specs.declared.rates.Rate.{Rate}
-use Rattle.dispense.specs.declared.rates.Rate.TheVariants.{NoRate, Current}
 use Rattle.program.specs.Cores.{with_run, with_chosen}
 use Rattle.program.specs.Runs.{with_rate, is_visiting, is_running, is_operating}
 use Rattle.program.specs.Sound.{Table, is_sound_core}
@@ -31,34 +33,28 @@ use Rattle.program.specs.Statuses.{in_hand}
 use Rattle.program.specs.declared.state.Core.{Core}
 use Rattle.program.specs.declared.state.Mode.{Mode}
 use Rattle.program.specs.declared.state.Mode.TheVariants.{Stopped, Paused, Running}
+use Rattle.program.specs.declared.state.Run.{Run}
 use Rattle.program.proofs.Parts.{RunClauses, run_clauses, run_sound, CoreClauses, core_sound}
 use Rattle.command.specs.Judging as judging
 use Rattle.command.specs.Obeying as obeying
 use Rattle.command.specs.Obeying.{decide, settle_by, settle, set_phase_to, tune_by, obey}
 use Rattle.command.specs.Phases.{with_volume, with_direction, with_function}
-use Rattle.command.specs.declared.judging.Verdict.{Verdict}
-use Rattle.command.specs.declared.judging.Verdict.TheVariants.{Accepted, NotApplicable, OutOfRange}
 use Rattle.command.specs.declared.obeying.Edit.{Edit}
 use Rattle.command.specs.declared.obeying.Edit.TheVariants.{Keep, Write}
-use Rattle.soundness.specs.Kept.{Kept, table_with, WellBy, Well}
+use Rattle.soundness.specs.Kept.{Kept, KeptRun, table_with, WellBy, Well}
 use Rattle.soundness.proofs.Control.{run_on_kept, run_from_kept, stop_now_kept}
 use Rattle.soundness.proofs.Cores.{clauses, run_kept, with_run_kept, given_sound, reset_sound}
 use Rattle.soundness.proofs.Runs.{by_test, phase_bounds, Going, going_of, going_with, within}
 use Rattle.soundness.proofs.Settings as set
 use Rattle.soundness.proofs.Working.{figure_sound, rate_not_stop}
 
--- ---- what a verdict that accepts tells
-abbrev accepts : Verdict → Bool
-accepts Accepted = true
-accepts NotApplicable = false
-accepts OutOfRange = false
-
-by_then : (t : Bool) (u v : Verdict) → accepts v ≡ false → (if t then u else v) ≡ Accepted → (t ≡ true) × (u ≡ Accepted)
+-- ---- what a judgement that accepts tells
+by_then : (t : Bool) (u v : Result ⊤ Declined) → is_ok v ≡ false → (if t then u else v) ≡ Ok tt → (t ≡ true) × (u ≡ Ok tt)
 by_then true u v n e = (refl, e)
-by_then false u v n e = false_true (sym n ∙ ap accepts e)
+by_then false u v n e = false_true (sym n ∙ ap is_ok e)
 
-by_else : (t : Bool) (u v : Verdict) → accepts u ≡ false → (if t then u else v) ≡ Accepted → (t ≡ false) × (v ≡ Accepted)
-by_else true u v n e = false_true (sym n ∙ ap accepts e)
+by_else : (t : Bool) (u v : Result ⊤ Declined) → is_ok u ≡ false → (if t then u else v) ≡ Ok tt → (t ≡ false) × (v ≡ Ok tt)
+by_else true u v n e = false_true (sym n ∙ ap is_ok e)
 by_else false u v n e = (refl, e)
 
 -- operating is the one mode
@@ -89,12 +85,15 @@ module _ (phases : ℕ) (look : ℕ → Phase) (table : Table phases look) (s : 
 
   -- ---- what is declined changes nothing
   decided :
-      (after : Core) (edit : Edit) (v : Verdict)
-      → (v ≡ Accepted → WellBy phases look s after edit)
+      (after : Core) (edit : Edit) (v : Result ⊤ Declined)
+      → (v ≡ Ok tt → WellBy phases look s after edit)
       → Well phases look s (decide s after edit v)
-  decided after edit Accepted f = f refl
-  decided after edit NotApplicable f = kept
-  decided after edit OutOfRange f = kept
+  decided after edit (Ok x) f = f refl
+  decided after edit (Err why) f = kept
+
+  steered : (x : Result Run Declined) → KeptRun phases look s.syringe (result_unwrap_or x s.run) → Well phases look s (obeying.steer s x)
+  steered (Ok r) k = with_run_kept phases look s kept _ k
+  steered (Err why) k = kept
 
   -- ---- another phase in hand, not operating: VOL, FUN, the stored rate, DIR
   write_well :
@@ -113,8 +112,8 @@ module _ (phases : ℕ) (look : ℕ → Phase) (table : Table phases look) (s : 
   set_diameter_well x w =
       decided _ Keep (judging.judge_diameter (is_operating s.run) x)
       (λ e.
-      let idle = by_else (is_operating s.run) NotApplicable _ refl e in
-      let fit = by_then (is_diameter x) Accepted OutOfRange refl idle.1 in
+      let idle = by_else (is_operating s.run) (Err NotApplicable) _ refl e in
+      let fit = by_then (is_diameter x) (Ok tt) (Err OutOfRange) refl idle.1 in
       set.settle_sound phases s here parts idle.0 (record { diameter = x }) _ fit.0 w)
 
   -- ---- RAT: the current rate alone, at one that is usable
@@ -122,29 +121,30 @@ module _ (phases : ℕ) (look : ℕ → Phase) (table : Table phases look) (s : 
       (x : ℕ)
       → is_writable x ≡ true
       → is_operating s.run ≡ true
-      → (rate : Rate)
-      → judging.judge_rate s.syringe x rate ≡ Accepted
+      → (rate : Option Rate)
+      → judging.judge_rate s.syringe x rate ≡ Ok tt
       → Kept phases look (with_run s (tune_by s.run x rate))
-  tune_well x w op NoRate e = kept
-  tune_well x w op (Current unit r) e =
+  tune_well x w op None e = kept
+  tune_well x w op (Some r) e =
       let d = s.syringe in
       let g = going op in
-      let u = (by_then (is_usable d x unit) Accepted OutOfRange refl e).0 in
-      with_run_kept phases look s kept (with_rate s.run (Current unit x)) (
+      let u = (by_then (is_usable d x r.unit) (Ok tt) (Err OutOfRange) refl e).0 in
+      let tuned : Rate = record { unit = r.unit; thousandths = x } in
+      with_run_kept phases look s kept (with_rate s.run (Some tuned)) (
         run_sound phases _
-            (going_with phases s.run (Current unit x) s.run.trap s.run.loops g (writable_grid x w).bounded
+            (going_with phases s.run (Some tuned) s.run.trap s.run.loops g (writable_grid x w).bounded
             g.clauses.trap_sound g.clauses.loops_sound).clauses,
-        set.work_stays d here here.direction s.run.rate (Current unit x) s.run.place.work (λ _. u) parts.work_sound,
+        set.work_stays d here here.direction s.run.rate (Some tuned) s.run.place.work (λ _. u) parts.work_sound,
       )
 
-  set_rate_well : (next : Function) (x : ℕ) (units : Units) → is_writable x ≡ true → Well phases look s (obeying.set_rate s hand next x units)
+  set_rate_well : (next : Function) (x : ℕ) (units : Option RateUnit) → is_writable x ≡ true → Well phases look s (obeying.set_rate s hand next x units)
   unfolding obeying.set_rate obeying.tune judging.judge_tuning
   set_rate_well next x units w =
-      let now = is_flow hand.function && is_visiting s.run.place.work && not (is_ramp next) && judging.is_own units in
+      let now = is_flow hand.function && is_visiting s.run.place.work && not (is_ramp next) && is_none units in
       by_test (Well phases look s) (is_operating s.run)
       (λ op.
       decided _ Keep (judging.judge_tuning s.run s.syringe hand next x units)
-      (λ e. tune_well x w op s.run.rate (by_then now _ NotApplicable refl e).1))
+      (λ e. tune_well x w op s.run.rate (by_then now _ (Err NotApplicable) refl e).1))
       (λ rests.
       decided (with_run s (settle s.run)) (Write _) (judging.judge_stored s.syringe hand x units)
       (λ e. write_well rests _ (set.stored_sound phases hand (table.every (in_hand s)) x _ w)))
@@ -156,7 +156,7 @@ module _ (phases : ℕ) (look : ℕ → Phase) (table : Table phases look) (s : 
   set_volume_well x w =
       decided (with_run s (settle s.run)) (Write _) (judging.judge_volume (is_operating s.run) hand)
       (λ e.
-      let both = by_then (is_rate_phase hand.function && not (is_operating s.run)) Accepted NotApplicable refl e in
+      let both = by_then (is_rate_phase hand.function && not (is_operating s.run)) (Ok tt) (Err NotApplicable) refl e in
       write_well (not-true (is_operating s.run) (and_right (is_rate_phase hand.function) _ both.0)) _
       (set.volume_sound phases hand (table.every (in_hand s)) x w))
 
@@ -166,8 +166,8 @@ module _ (phases : ℕ) (look : ℕ → Phase) (table : Table phases look) (s : 
   choose_well n =
       decided _ Keep (judging.judge_phase (is_operating s.run) n phases)
       (λ e.
-      let idle = by_else (is_operating s.run) NotApplicable _ refl e in
-      let fit = (by_then (is_phase phases n) Accepted OutOfRange refl idle.1).0 in
+      let idle = by_else (is_operating s.run) (Err NotApplicable) _ refl e in
+      let fit = (by_then (is_phase phases n) (Ok tt) (Err OutOfRange) refl idle.1).0 in
       core_sound phases (with_chosen s n) here
       (record {
         in_range = parts.in_range;
@@ -186,8 +186,8 @@ module _ (phases : ℕ) (look : ℕ → Phase) (table : Table phases look) (s : 
   set_function_well g =
       decided (with_run s (settle s.run)) (Write _) (judging.judge_function (is_operating s.run) g phases)
       (λ e.
-      let idle = by_else (is_operating s.run) NotApplicable _ refl e in
-      let fit = (by_then (fits phases g) Accepted OutOfRange refl idle.1).0 in
+      let idle = by_else (is_operating s.run) (Err NotApplicable) _ refl e in
+      let fit = (by_then (fits phases g) (Ok tt) (Err OutOfRange) refl idle.1).0 in
       write_well idle.0 _ (set.function_sound phases hand (table.every (in_hand s)) g fit))
 
   -- ---- CLD
@@ -224,7 +224,7 @@ module _ (phases : ℕ) (look : ℕ → Phase) (table : Table phases look) (s : 
       decided (with_run s (settle s.run)) (Write _) (judging.judge_direction (is_operating s.run) hand)
       (λ e.
       go (is_operating s.run) refl (is_rate_phase hand.function && eqb hand.volume 0) refl
-      (by_else _ NotApplicable Accepted refl e).0)
+      (by_else _ (Err NotApplicable) (Ok tt) refl e).0)
     where
       sound : is_sound_phase phases (with_direction hand way) ≡ true
       sound = set.direction_sound phases hand (table.every (in_hand s)) way
@@ -266,11 +266,9 @@ module _ (phases : ℕ) (look : ℕ → Phase) (table : Table phases look) (s : 
   kept_obey h next (c.SetPhase n) w = choose_well n
   kept_obey h next c.AskFunction w = kept
   kept_obey h next (c.SetFunction g) w = set_function_well g
-  kept_obey h next c.Run w =
-      with_run_kept phases look s kept _ (run_on_kept phases look _ s.run (run_kept phases look s kept) table)
-  kept_obey h next (c.RunFrom n) w =
-      with_run_kept phases look s kept _ (run_from_kept phases look _ s.run (run_kept phases look s kept) n)
-  kept_obey h next c.Stop w = with_run_kept phases look s kept _ (stop_now_kept phases look _ s.run (run_kept phases look s kept))
+  kept_obey h next c.Run w = steered _ (run_on_kept phases look _ s.run (run_kept phases look s kept) table)
+  kept_obey h next (c.RunFrom n) w = steered _ (run_from_kept phases look _ s.run (run_kept phases look s kept) n)
+  kept_obey h next c.Stop w = steered _ (stop_now_kept phases look _ s.run (run_kept phases look s kept))
   kept_obey h next c.AskDispensed w = kept
   kept_obey h next (c.Clear way) w = clear_well way
   kept_obey h next c.Reset w = reset_sound phases h s

@@ -1,23 +1,25 @@
 -- RUN, STP and the end of an alarm keep the program under way sound.
 -- Assumes nothing.
+use Rattle.std.specs.Prelude.{Result, Option}
+use Rattle.std.specs.Result.{result_unwrap_or}
 use Prim.Native.Nat.{ℕ}
 use mathlib.Core.Path.{◌≡◌, refl, sym, ap, ◌∙◌}
 use mathlib.Core.Bool.{true, false, not, ◌&&◌}
 use native.Mathlib.Omega.{arith}
 use lib.Dec.{eqb}
 use borrow.Author.Tests.{eqb-true, ne_eqb}
+use Rattle.std.specs.Prelude.{None}
 use Rattle.base.proofs.Choices.{and_left, false_true}
 use Rattle.drive.specs.declared.syringe.Syringe.{Syringe}
 use Rattle.words.specs.Functions.{number, datum, is_phase}
+use Rattle.words.specs.declared.answers.Declined.{Declined}
 use Rattle.words.specs.declared.phases.Phase.{Phase}
 use Rattle.dispense.specs.declared.rates.Rate.{Rate}
 use Rattle.program.specs.Control.{run_by, run_on, run_from, stop_by, stop_now}
 use Rattle.program.specs.Runs.{with_mode, go_on, is_waiting, is_running, is_operating, is_moving, calm, clear_alarm}
 use Rattle.program.specs.Sound.{Table, is_sound_work, is_sound_mode}
-use Rattle.program.specs.declared.control.Steered.{Steered}
 use Rattle.program.specs.declared.state.Mode.{Mode}
 use Rattle.program.specs.declared.state.Mode.TheVariants.{Stopped, Paused, Running}
-use Rattle.program.specs.declared.state.Pending.TheVariants.{NoAlarm}
 use Rattle.program.specs.declared.state.Run.{Run}
 use Rattle.program.specs.declared.state.Work.{Work}
 use Rattle.program.specs.declared.state.Work.TheVariants.{Entering, Visiting, Pausing, Waiting}
@@ -27,7 +29,7 @@ use Rattle.soundness.proofs.Runs.{by_test, phase_bounds, fresh_kept, going_of, n
 
 -- a trigger wait stands in no phase that stops
 wait_not_stop :
-    (d : Syringe) (p : Phase) (rate : Rate) (w : Work)
+    (d : Syringe) (p : Phase) (rate : Option Rate) (w : Work)
     → not (is_waiting w) ≡ false
     → is_sound_work d p rate w ≡ true
     → eqb (number p.function) 3 ≡ false
@@ -42,8 +44,9 @@ module _ (phases : ℕ) (look : ℕ → Phase) (d : Syringe) (r : Run) (kept : K
   clauses : RunClauses phases r
   clauses = run_clauses phases r kept.0
 
-  abbrev Steers : Steered → Type 0
-  Steers x = KeptRun phases look d x.run
+  -- what does not apply leaves the program as it is
+  abbrev Steers : Result Run Declined → Type 0
+  Steers x = KeptRun phases look d (result_unwrap_or x r)
 
   mode_kept : (m : Mode) → is_sound_mode (with_mode r m) m ≡ true → KeptRun phases look d (with_mode r m)
   mode_kept m h = (
@@ -64,22 +67,22 @@ module _ (phases : ℕ) (look : ℕ → Phase) (d : Syringe) (r : Run) (kept : K
   clear_alarm_kept = go r.mode clauses.mode_sound
     where
       go : (m : Mode) → is_sound_mode r m ≡ true → KeptRun phases look d (with_mode r (calm m))
-      go (Stopped alarm) h = mode_kept (Stopped NoAlarm) h
+      go (Stopped alarm) h = mode_kept (Stopped None) h
       go Paused h = mode_kept Paused refl
       go Running h = mode_kept Running refl
 
   -- ---- STP
-  pub stop_now_kept : KeptRun phases look d (stop_now r).run
+  pub stop_now_kept : Steers (stop_now r)
   unfolding stop_now
   stop_now_kept = go r.mode
     where
-      go : (m : Mode) → KeptRun phases look d (stop_by r m).run
+      go : (m : Mode) → Steers (stop_by r m)
       go (Stopped alarm) = kept
-      go Paused = stop_kept phases look d r clauses NoAlarm
-      go Running = by_test Steers (is_moving r) (λ q. mode_kept Paused refl) (λ q. stop_kept phases look d r clauses NoAlarm)
+      go Paused = stop_kept phases look d r clauses None
+      go Running = by_test Steers (is_moving r) (λ q. mode_kept Paused refl) (λ q. stop_kept phases look d r clauses None)
 
   -- ---- RUN n
-  pub run_from_kept : (n : ℕ) → KeptRun phases look d (run_from r n phases).run
+  pub run_from_kept : (n : ℕ) → Steers (run_from r n phases)
   unfolding run_from
   run_from_kept n =
       by_test Steers (is_operating r)
@@ -90,7 +93,7 @@ module _ (phases : ℕ) (look : ℕ → Phase) (d : Syringe) (r : Run) (kept : K
       (λ e. kept))
 
   -- ---- RUN: the end of a trigger wait goes on to a phase or one past the last
-  pub run_on_kept : Table phases look → KeptRun phases look d (run_on r).run
+  pub run_on_kept : Table phases look → Steers (run_on r)
   unfolding run_on
   run_on_kept table = go r.mode refl
     where
@@ -101,7 +104,7 @@ module _ (phases : ℕ) (look : ℕ → Phase) (d : Syringe) (r : Run) (kept : K
           (within phases look table r clauses
           (wait_not_stop d (look r.place.current) r.rate r.place.work waits kept.1))
 
-      go : (m : Mode) → r.mode ≡ m → KeptRun phases look d (run_by r m).run
+      go : (m : Mode) → r.mode ≡ m → Steers (run_by r m)
       go (Stopped alarm) e = fresh_kept phases look d 1 Running (omega arith) (omega arith)
       go Paused e = mode_kept Running refl
       go Running e = by_test Steers (is_moving r) (λ q. kept) (waited e)

@@ -4,8 +4,10 @@ use Prim.Native.Nat.{ℕ, ◌≤◌}
 use mathlib.Core.Path.{◌≡◌, refl}
 use mathlib.Core.Bool.{Bool, true}
 use native.Mathlib.Omega.{arith}
+use Rattle.std.specs.Prelude.{Option, Some, None}
 use Rattle.decimal.specs.Writable.{is_writable}
 use Rattle.drive.specs.Syringe.{is_diameter}
+use Rattle.words.specs.declared.answers.Alarm.{Alarm}
 use Rattle.words.specs.declared.answers.Alarm.TheVariants.{PowerUp}
 use Rattle.words.specs.declared.phases.Phase.{Phase}
 use Rattle.dispense.specs.Ledgers.{is_sound_ledger}
@@ -15,8 +17,6 @@ use Rattle.program.specs.Runs.{fresh_at}
 use Rattle.program.specs.Sound.{Table, is_sound_work, is_sound_run, is_sound_core}
 use Rattle.program.specs.declared.state.Core.{Core}
 use Rattle.program.specs.declared.state.Mode.TheVariants.{Stopped}
-use Rattle.program.specs.declared.state.Pending.{Pending}
-use Rattle.program.specs.declared.state.Pending.TheVariants.{NoAlarm, Raised}
 use Rattle.program.specs.declared.state.Pins.{Pins}
 use Rattle.program.specs.declared.state.Run.{Run}
 use Rattle.program.proofs.Parts.{ledger_sound, run_sound, CoreClauses, core_clauses, core_sound}
@@ -73,7 +73,7 @@ levels_kept phases look s pins level k = k
 new_sound :
     (phases : ℕ)
     → 1 ≤ phases
-    → (alarm : Pending) (pins : Pins) (p : Phase)
+    → (alarm : Option Alarm) (pins : Pins) (p : Phase)
     → is_sound_core phases (with_pins (with_run power_up_core (fresh_at 1 (Stopped alarm))) pins) p ≡ true
 unfolding is_diameter is_writable
 new_sound phases h alarm pins p =
@@ -89,7 +89,7 @@ new_sound phases h alarm pins p =
     })
 
 pub power_up_sound : (phases : ℕ) → 1 ≤ phases → (p : Phase) → is_sound_core phases power_up_core p ≡ true
-power_up_sound phases h p = new_sound phases h (Raised PowerUp) power_up_core.pins p
+power_up_sound phases h p = new_sound phases h (Some PowerUp) power_up_core.pins p
 
 pub reset_sound : (phases : ℕ) → 1 ≤ phases → (s : Core) (p : Phase) → is_sound_core phases (reset_core s) p ≡ true
-reset_sound phases h s p = new_sound phases h NoAlarm s.pins p
+reset_sound phases h s p = new_sound phases h None s.pins p

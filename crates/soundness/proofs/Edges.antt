@@ -1,23 +1,23 @@
 -- A level of a pin keeps a sound core sound, and so does an alarm that was told.
 -- Assumes nothing.
+use Rattle.std.specs.Prelude.{Result}
+use Rattle.std.specs.Result.{result_unwrap_or}
 use Prim.Native.Nat.{ℕ}
 use mathlib.Core.Path.{◌≡◌, refl}
 use mathlib.Core.Bool.{Bool, true}
+use Rattle.std.specs.Prelude.{Option, Some, None}
 use Rattle.drive.specs.declared.syringe.Syringe.{Syringe}
+use Rattle.words.specs.declared.answers.Declined.{Declined}
+use Rattle.words.specs.declared.answers.Alarm.{Alarm}
 use Rattle.words.specs.declared.phases.Phase.{Phase}
 use Rattle.program.specs.Cores.{with_run}
 use Rattle.program.specs.Edges.{falls, with_two, with_four, unless_alarm, foot_switch, pin_two, spring_by, spring_in, spring, pin_four, pin_six}
 use Rattle.program.specs.Runs.{is_moving, pending, clear_alarm}
 use Rattle.program.specs.Sound.{Table, is_sound_trap}
-use Rattle.program.specs.declared.control.Steered.{Steered}
 use Rattle.program.specs.declared.state.Core.{Core}
 use Rattle.program.specs.declared.state.Mode.{Mode}
 use Rattle.program.specs.declared.state.Mode.TheVariants.{Stopped, Paused, Running}
-use Rattle.program.specs.declared.state.Pending.{Pending}
-use Rattle.program.specs.declared.state.Pending.TheVariants.{NoAlarm, Raised}
 use Rattle.program.specs.declared.state.Run.{Run}
-use Rattle.program.specs.declared.state.Trap.{Trap}
-use Rattle.program.specs.declared.state.Trap.TheVariants.{NoTrap, Armed}
 use Rattle.program.proofs.Parts.{RunClauses, run_clauses}
 use Rattle.soundness.specs.Kept.{Kept, KeptRun}
 use Rattle.soundness.proofs.Control.{clear_alarm_kept, stop_now_kept, run_on_kept}
@@ -34,9 +34,9 @@ module _ (phases : ℕ) (look : ℕ → Phase) (d : Syringe) (r : Run) (kept : K
       c : RunClauses phases r
       c = run_clauses phases r kept.0
 
-      by_trap : r.mode ≡ Running → (t : Trap) → is_sound_trap phases t ≡ true → KeptRun phases look d (spring_by r t)
-      by_trap m NoTrap e = kept
-      by_trap m (Armed n) e = fire_kept phases look d r (going_of phases r c m) n e
+      by_trap : r.mode ≡ Running → (t : Option ℕ) → is_sound_trap phases t ≡ true → KeptRun phases look d (spring_by r t)
+      by_trap m None e = kept
+      by_trap m (Some n) e = fire_kept phases look d r (going_of phases r c m) n e
 
       go : (m : Mode) → r.mode ≡ m → KeptRun phases look d (spring_in r m)
       go (Stopped alarm) e = kept
@@ -48,12 +48,12 @@ module _ (phases : ℕ) (look : ℕ → Phase) (d : Syringe) (r : Run) (kept : K
   unfolding foot_switch
   foot_switch_kept table = go (pending r)
     where
-      go : (a : Pending) → KeptRun phases look d (unless_alarm r a)
-      go NoAlarm =
-          by_test (λ (x : Steered). KeptRun phases look d x.run) (is_moving r)
+      go : (a : Option Alarm) → KeptRun phases look d (unless_alarm r a)
+      go None =
+          by_test (λ (x : Result Run Declined). KeptRun phases look d (result_unwrap_or x r)) (is_moving r)
           (λ q. stop_now_kept phases look d r kept)
           (λ q. run_on_kept phases look d r kept table)
-      go (Raised alarm) = kept
+      go (Some alarm) = kept
 
 pub kept_clear_alarm :
     (phases : ℕ) (look : ℕ → Phase) (s : Core) → Kept phases look s → Kept phases look (with_run s (clear_alarm s.run))

@@ -1,11 +1,13 @@
 -- Entering a phase keeps the program under way sound, whatever its function.
 -- Assumes nothing.
+use Rattle.std.specs.Prelude.{Option, Some, None, IfSome}
 use Prim.Native.Nat.{ℕ, ◌+◌, ◌≤◌, ◌<◌}
 use mathlib.Core.Path.{◌≡◌, refl, sym, ap, ◌∙◌}
 use mathlib.Core.Bool.{Bool, true, false, ◌&&◌}
 use native.Mathlib.Omega.{arith}
 use lib.Dec.{leb, ltb, eqb}
 use borrow.Author.Tests.{leb-true, le-leb, eqb-true, eqb-false, eq-eqb}
+use Rattle.std.specs.Prelude.{Option, Some, None}
 use Rattle.base.proofs.Choices.{and_left, and_right}
 use Rattle.base.proofs.Each.{and_both}
 use Rattle.decimal.proofs.Grid.{writable_grid}
@@ -24,32 +26,28 @@ use Rattle.loops.proofs.Kept.{lps_sound, lop_sound, lop_next_ge, lop_next_le, lp
 use Rattle.loops.proofs.Soundness.{none_sound}
 use Rattle.dispense.specs.Rates.{thousandths, increase, decrease, is_usable_rate}
 use Rattle.dispense.specs.declared.rates.Rate.{Rate}
-use Rattle.dispense.specs.declared.rates.Rate.TheVariants.{NoRate, Current}
 use Rattle.program.specs.Runs.{with_rate, with_loops, with_trap, doing, fire}
 use Rattle.program.specs.Sound.{Table, is_sound_trap}
 use Rattle.program.specs.declared.state.Pins.{Pins}
-use Rattle.program.specs.declared.state.Pending.TheVariants.{NoAlarm, Raised}
 use Rattle.program.specs.declared.state.Run.{Run}
-use Rattle.program.specs.declared.state.Trap.{Trap}
-use Rattle.program.specs.declared.state.Trap.TheVariants.{NoTrap, Armed}
 use Rattle.program.specs.declared.state.Work.{Work}
 use Rattle.program.specs.declared.state.Work.TheVariants.{Visiting, Pausing, Waiting}
 use Rattle.program.proofs.Parts.{PhaseClauses, phase_clauses}
-use Rattle.tick.specs.Entering.{begin_visit, enter_rate, enter_pause, start_loop, pass_loop, end_loop, jump_if, arm_trap, clear_trap}
+use Rattle.tick.specs.Entering.{begin_visit, enter_rate, enter_pause, begun, start_loop, pass_loop, end_loop, jump_if, arm_trap, clear_trap}
 use Rattle.tick.specs.Entering.{enter_by, enter}
 use Rattle.soundness.specs.Kept.{KeptRun}
 use Rattle.soundness.proofs.Runs.{by_test, Going, going_with, to_kept, next_kept, jump_kept, doing_kept, stop_kept, within}
 use Rattle.soundness.proofs.Visits.{begun_sound}
 
 -- ---- a rate that is to be the current one is at most the largest
-increase_most : (rate : Rate) (x : ℕ) → thousandths (increase rate x) ≤ most_rate
-increase_most NoRate x = omega arith
-increase_most (Current unit r) x =
-    by_test (λ (q : Rate). thousandths q ≤ most_rate) (leb (r + x) most_rate) (λ e. leb-true _ _ e) (λ e. omega arith)
+increase_most : (rate : Option Rate) (x : ℕ) → thousandths (increase rate x) ≤ most_rate
+increase_most None x = omega arith
+increase_most (Some r) x =
+    by_test (λ (q : Option Rate). thousandths q ≤ most_rate) (leb (r.thousandths + x) most_rate) (λ e. leb-true _ _ e) (λ e. omega arith)
 
-decrease_most : (rate : Rate) (x : ℕ) → thousandths rate ≤ most_rate → thousandths (decrease rate x) ≤ most_rate
-decrease_most NoRate x h = omega arith
-decrease_most (Current unit r) x h = omega arith
+decrease_most : (rate : Option Rate) (x : ℕ) → thousandths rate ≤ most_rate → thousandths (decrease rate x) ≤ most_rate
+decrease_most None x h = omega arith
+decrease_most (Some r) x h = omega arith
 
 -- a diameter in its range gives a threshold
 pub threshold_above : (d : Syringe) → is_diameter d.diameter ≡ true → 0 < step_threshold d
@@ -81,8 +79,8 @@ module _ (phases : ℕ) (look : ℕ → Phase) (d : Syringe) (r : Run) (g : Goin
       → KeptRun phases look d (enter_pause r ticks)
   unfolding enter_pause
   pause_kept ticks e w =
-      let none = with_rate r NoRate in
-      let g' = going_with phases r NoRate r.trap r.loops g (omega arith) g.clauses.trap_sound g.clauses.loops_sound in
+      let none = with_rate r None in
+      let g' = going_with phases r None r.trap r.loops g (omega arith) g.clauses.trap_sound g.clauses.loops_sound in
       by_test (λ (work : Work). KeptRun phases look d (doing none work)) (eqb ticks 0)
       (λ q. doing_kept phases look d none g' Waiting (w (eqb-true ticks 0 q)))
       (λ q.
@@ -93,15 +91,17 @@ module _ (phases : ℕ) (look : ℕ → Phase) (d : Syringe) (r : Run) (g : Goin
   going_loops : (l : Loops) → loops.is_sound_loops phases l ≡ true → Going phases (with_loops r l)
   going_loops l h = going_with phases r r.rate r.trap l g g.clauses.rate_most g.clauses.trap_sound h
 
+  begun_kept :
+      (more : Option Loops)
+      → r.place.current ≤ phases
+      → IfSome more (λ l. loops.is_sound_loops phases l ≡ true)
+      → KeptRun phases look d (begun r more)
+  begun_kept None c h = stop_kept phases look d r g.clauses (Some Program)
+  begun_kept (Some l) c h = next_kept phases look d (with_loops r l) (going_loops l h) c
+
   lps_kept : r.place.current ≤ phases → KeptRun phases look d (start_loop r)
   unfolding start_loop
-  lps_kept c =
-      let b = loops.lps r.loops r.place.current in
-      by_test (KeptRun phases look d) b.full
-      (λ q. stop_kept phases look d r g.clauses (Raised Program))
-      (λ q.
-      next_kept phases look d (with_loops r b.loops)
-      (going_loops b.loops (lps_sound phases _ r.loops g.clauses.loops_sound c q)) c)
+  lps_kept c = begun_kept (loops.lps r.loops r.place.current) c (lps_sound phases _ r.loops g.clauses.loops_sound c)
 
   -- ---- LOP
   lop_kept : (n : ℕ) → n ≤ 99 → r.place.current ≤ phases → KeptRun phases look d (pass_loop r n)
@@ -131,22 +131,22 @@ module _ (phases : ℕ) (look : ℕ → Phase) (d : Syringe) (r : Run) (g : Goin
   pub fire_kept : (n : ℕ) → is_phase phases n ≡ true → KeptRun phases look d (fire r n)
   unfolding fire
   fire_kept n h =
-      jump_kept phases look d (with_loops (with_trap r NoTrap) loops.none)
-      (going_with phases r r.rate NoTrap loops.none g g.clauses.rate_most refl (none_sound phases)) n h
+      jump_kept phases look d (with_loops (with_trap r None) loops.none)
+      (going_with phases r r.rate None loops.none g g.clauses.rate_most refl (none_sound phases)) n h
 
   -- ---- EVN and EVR
-  going_trap : (trap : Trap) → is_sound_trap phases trap ≡ true → Going phases (with_trap r trap)
+  going_trap : (trap : Option ℕ) → is_sound_trap phases trap ≡ true → Going phases (with_trap r trap)
   going_trap trap h = going_with phases r r.rate trap r.loops g g.clauses.rate_most h g.clauses.loops_sound
 
   evn_kept :
       (four : Bool) (n : ℕ) → is_phase phases n ≡ true → r.place.current ≤ phases → KeptRun phases look d (arm_trap r four n)
   unfolding arm_trap
-  evn_kept true n h c = next_kept phases look d (with_trap r (Armed n)) (going_trap (Armed n) h) c
+  evn_kept true n h c = next_kept phases look d (with_trap r (Some n)) (going_trap (Some n) h) c
   evn_kept false n h c = fire_kept n h
 
   evr_kept : r.place.current ≤ phases → KeptRun phases look d (clear_trap r)
   unfolding clear_trap
-  evr_kept c = next_kept phases look d (with_trap r NoTrap) (going_trap NoTrap refl) c
+  evr_kept c = next_kept phases look d (with_trap r None) (going_trap None refl) c
 
 module _ (phases : ℕ) (look : ℕ → Phase) (table : Table phases look) (d : Syringe) (e : is_diameter d.diameter ≡ true) (r : Run) (g : Going phases r) where
   abbrev now : Phase
@@ -158,7 +158,7 @@ module _ (phases : ℕ) (look : ℕ → Phase) (table : Table phases look) (d : 
 
   -- RAT, INC, DEC at the rate that is to be the current one
   rate_kept :
-      (rate : Rate)
+      (rate : Option Rate)
       → thousandths rate ≤ most_rate
       → r.place.current ≤ phases
       → is_rate_phase now.function ≡ true
@@ -169,7 +169,7 @@ module _ (phases : ℕ) (look : ℕ → Phase) (table : Table phases look) (d : 
       (λ u.
       begin_kept phases look d (with_rate r rate)
       (going_with phases r rate r.trap r.loops g h g.clauses.trap_sound g.clauses.loops_sound) e c k u)
-      (λ u. stop_kept phases look d r g.clauses (Raised Program))
+      (λ u. stop_kept phases look d r g.clauses (Some Program))
 
   phase : PhaseClauses phases now
   phase = phase_clauses phases now (table.every r.place.current)
@@ -179,13 +179,13 @@ module _ (phases : ℕ) (look : ℕ → Phase) (table : Table phases look) (d : 
 
   -- ---- by the function of the phase in hand
   enter_by_kept : (pins : Pins) (h : Function) → now.function ≡ h → fits phases h ≡ true → KeptRun phases look d (enter_by r pins d now h)
-  enter_by_kept pins f.Rat q z = rate_kept (Current now.unit now.rate) rate_most (not_past f.Rat q refl) (ap is_rate_phase q)
+  enter_by_kept pins f.Rat q z = rate_kept (Some (record { unit = now.unit; thousandths = now.rate })) rate_most (not_past f.Rat q refl) (ap is_rate_phase q)
   enter_by_kept pins f.Inc q z =
       rate_kept (increase r.rate now.rate) (increase_most r.rate _) (not_past f.Inc q refl) (ap is_rate_phase q)
   enter_by_kept pins f.Dec q z =
       rate_kept (decrease r.rate now.rate) (decrease_most r.rate _ g.clauses.rate_most) (not_past f.Dec q refl)
       (ap is_rate_phase q)
-  enter_by_kept pins f.Stp q z = stop_kept phases look d r g.clauses NoAlarm
+  enter_by_kept pins f.Stp q z = stop_kept phases look d r g.clauses None
   enter_by_kept pins (f.Jmp n) q z = jump_kept phases look d r g n z
   enter_by_kept pins (f.Lop n) q z =
       lop_kept phases look d r g n (leb-true n 99 (and_right (leb 1 n) (leb n 99) z)) (not_past (f.Lop n) q refl)

@@ -1,6 +1,6 @@
 -- The program under way stays sound: replaced whole, or where it goes on.
 -- Assumes nothing.
-use Rattle.std.specs.Prelude.{if◌then◌else◌}
+use Rattle.std.specs.Prelude.{if◌then◌else◌, Option}
 use Prim.Native.Nat.{ℕ, ◌+◌, ◌≤◌}
 use mathlib.Core.Path.{◌≡◌, refl, ap, ◌∙◌}
 use mathlib.Core.Logic.{⊎_elim}
@@ -13,6 +13,7 @@ use Rattle.base.proofs.Choices.{and_left, and_right}
 use Rattle.drive.specs.Rates.{most_rate}
 use Rattle.drive.specs.declared.syringe.Syringe.{Syringe}
 use Rattle.words.specs.Functions.{number, is_phase}
+use Rattle.words.specs.declared.answers.Alarm.{Alarm}
 use Rattle.words.specs.declared.phases.Phase.{Phase}
 use Rattle.loops.specs.Loops.{is_sound_loops}
 use Rattle.loops.specs.declared.Loops.{Loops}
@@ -23,9 +24,7 @@ use Rattle.program.specs.Runs.{with_place, fresh_at, doing, go_to, go_on}
 use Rattle.program.specs.Sound.{Table, is_sound_trap, is_sound_work, is_sound_mode}
 use Rattle.program.specs.declared.state.Mode.{Mode}
 use Rattle.program.specs.declared.state.Mode.TheVariants.{Stopped, Paused, Running}
-use Rattle.program.specs.declared.state.Pending.{Pending}
 use Rattle.program.specs.declared.state.Run.{Run}
-use Rattle.program.specs.declared.state.Trap.{Trap}
 use Rattle.program.specs.declared.state.Work.{Work}
 use Rattle.program.specs.declared.state.Work.TheVariants.{Entering}
 use Rattle.program.proofs.Parts.{RunClauses, run_sound}
@@ -70,7 +69,7 @@ going_of phases r c m = record { clauses = c; free = λ q. ap (is_sound_mode q) 
 
 -- with another rate, trap or loops
 pub going_with :
-    (phases : ℕ) (r : Run) (rate : Rate) (trap : Trap) (loops : Loops)
+    (phases : ℕ) (r : Run) (rate : Option Rate) (trap : Option ℕ) (loops : Loops)
     → Going phases r
     → thousandths rate ≤ most_rate
     → is_sound_trap phases trap ≡ true
@@ -126,7 +125,7 @@ module _ (phases : ℕ) (look : ℕ → Phase) (d : Syringe) (r : Run) (g : Goin
 
 module _ (phases : ℕ) (look : ℕ → Phase) (d : Syringe) (r : Run) (c : RunClauses phases r) where
   -- stopped at the phase where it stands, with an alarm or none
-  pub stop_kept : (alarm : Pending) → KeptRun phases look d (fresh_at r.place.current (Stopped alarm))
+  pub stop_kept : (alarm : Option Alarm) → KeptRun phases look d (fresh_at r.place.current (Stopped alarm))
   stop_kept alarm = fresh_kept phases look d r.place.current (Stopped alarm) c.least c.most
 
 -- ---- only a phase that stops stands past the last

@@ -1,8 +1,10 @@
 -- What an accepted setting leaves: the phase in hand with one thing set, what is done in it, and a program that is not operating.
 -- Assumes nothing.
+use Rattle.std.specs.Prelude.{Option}
 use Prim.Native.Nat.{ℕ}
 use mathlib.Core.Path.{◌≡◌, refl, sym, ap}
 use mathlib.Core.Bool.{true, false}
+use Rattle.std.specs.Prelude.{None}
 use Rattle.base.proofs.Choices.{false_true}
 use Rattle.decimal.specs.Writable.{is_writable}
 use Rattle.drive.specs.Syringe.{is_diameter}
@@ -21,7 +23,6 @@ use Rattle.program.specs.Sound.{is_sound_mode, is_sound_work, is_sound_run, is_s
 use Rattle.program.specs.declared.state.Core.{Core}
 use Rattle.program.specs.declared.state.Mode.{Mode}
 use Rattle.program.specs.declared.state.Mode.TheVariants.{Stopped, Paused, Running}
-use Rattle.program.specs.declared.state.Pending.TheVariants.{NoAlarm}
 use Rattle.program.specs.declared.state.Run.{Run}
 use Rattle.program.specs.declared.state.Work.{Work}
 use Rattle.program.specs.declared.state.Work.TheVariants.{Entering, Visiting, Pausing, Waiting}
@@ -53,7 +54,7 @@ module _ (phases : ℕ) (p : Phase) (sound : is_sound_phase phases p ≡ true) w
 
 -- ---- what is done in a phase stays sound in another direction, and at another rate that is usable if the one before was
 pub work_stays :
-    (d : Syringe) (p : Phase) (way : Direction) (rate next : Rate) (w : Work)
+    (d : Syringe) (p : Phase) (way : Direction) (rate next : Option Rate) (w : Work)
     → (is_usable_rate d rate ≡ true → is_usable_rate d next ≡ true)
     → is_sound_work d p rate w ≡ true
     → is_sound_work d (with_direction p way) next w ≡ true
@@ -79,7 +80,7 @@ settled :
     → is_running m ≡ false
     → (is_sound_run phases (settle_by r m) ≡ true) × ((settle_by r m).place.work ≡ Entering)
 settled phases r (Stopped alarm) u h e = (run_sound phases r u, (idle_clauses r h).no_work)
-settled phases r Paused u h e = (run_sound phases _ (fresh_sound phases _ (Stopped NoAlarm) u.least u.most), refl)
+settled phases r Paused u h e = (run_sound phases _ (fresh_sound phases _ (Stopped None) u.least u.most), refl)
 settled phases r Running u h e = false_true (sym e)
 
 -- so it is sound with any phase in hand and any syringe

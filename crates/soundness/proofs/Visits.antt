@@ -1,6 +1,6 @@
 -- A visit that is begun is sound, and one that goes on after a working tick stays so.
 -- Assumes nothing.
-use Rattle.std.specs.Prelude.{if◌then◌else◌}
+use Rattle.std.specs.Prelude.{if◌then◌else◌, Option}
 use Prim.Native.Nat.{ℕ, zero, suc, ◌+◌, ◌<◌}
 use mathlib.Core.Path.{◌≡◌, refl, sym, ◌∙◌}
 use mathlib.Core.Logic.{◌⊎◌, inl, inr}
@@ -31,7 +31,7 @@ none_given (suc m) zero h = false_true (sym h ∙ simp (positive m))
 none_given (suc m) (suc n) h = inl (omega arith)
 
 pub begun_sound :
-    (d : Syringe) (p : Phase) (rate : Rate)
+    (d : Syringe) (p : Phase) (rate : Option Rate)
     → 0 < step_threshold d
     → is_usable_rate d rate ≡ true
     → is_rate_phase p.function ≡ true
@@ -53,7 +53,7 @@ below (suc n) given more h d =
     inl (simp some (leb-false (suc n) more (simp (positive n, some) at d)))
 
 pub worked_sound :
-    (d : Syringe) (p : Phase) (rate : Rate) (v : Visit) (hourly : ℕ)
+    (d : Syringe) (p : Phase) (rate : Option Rate) (v : Visit) (hourly : ℕ)
     → 0 < step_threshold d
     → is_sound_visit d p rate v ≡ true
     → is_done (worked_of v hourly (step_threshold d)) ≡ false

@@ -1,11 +1,13 @@
 -- A working tick of a visit or of a timed pause keeps the program under way sound, and the totals at most their limit.
 -- Assumes nothing.
+use Rattle.std.specs.Prelude.{Option, Some, None}
 use Prim.Native.Nat.{ℕ, ◌+◌, ◌-◌, ◌≤◌}
 use mathlib.Core.Path.{◌≡◌}
 use mathlib.Core.Bool.{true, false}
 use native.Mathlib.Omega.{arith}
 use lib.Dec.{leb, eqb}
 use borrow.Author.Tests.{leb-true, leb-false, le-leb, ne_eqb}
+use Rattle.std.specs.Prelude.{Some}
 use Rattle.base.proofs.Choices.{and_left, and_right}
 use Rattle.base.proofs.Each.{and_both}
 use Rattle.drive.specs.Rates.{hourly_rate}
@@ -21,10 +23,8 @@ use Rattle.dispense.specs.Ledgers.{most_total, total_of, with_figure, is_sound_l
 use Rattle.dispense.specs.Visits.{worked_of, is_done}
 use Rattle.dispense.specs.declared.ledgers.Ledger.{Ledger}
 use Rattle.dispense.specs.declared.rates.Rate.{Rate}
-use Rattle.dispense.specs.declared.rates.Rate.TheVariants.{NoRate, Current}
 use Rattle.dispense.specs.declared.visits.Visit.{Visit}
 use Rattle.program.specs.Sound.{Table, is_sound_visit, is_sound_work}
-use Rattle.program.specs.declared.state.Pending.TheVariants.{Raised}
 use Rattle.program.specs.declared.state.Run.{Run}
 use Rattle.program.specs.declared.state.Work.TheVariants.{Visiting, Pausing}
 use Rattle.program.proofs.Parts.{ledger_clauses, ledger_sound, visit_clauses}
@@ -88,7 +88,7 @@ module _ (phases : ℕ) (look : ℕ → Phase) (table : Table phases look) (d : 
             (worked_sound d here r.rate v hourly (threshold_above d e) w),
         figure_sound l way (total_of l way + dose_of d v hourly) s (leb-true _ _ q),
       ))
-      (λ q. (stop_kept phases look d r g.clauses (Raised Program), s))
+      (λ q. (stop_kept phases look d r g.clauses (Some Program), s))
 
   -- at the current rate; a sound visit has one
   pub visit_kept :
@@ -100,9 +100,9 @@ module _ (phases : ℕ) (look : ℕ → Phase) (table : Table phases look) (d : 
   unfolding work_visit
   visit_kept l way v k s w = go r.rate
     where
-      go : (rate : Rate) → KeptGiven phases look d (work_at r l d way v rate)
-      go NoRate = (k, s)
-      go (Current unit x) = give_kept l way v (hourly_rate x unit) s w
+      go : (rate : Option Rate) → KeptGiven phases look d (work_at r l d way v rate)
+      go None = (k, s)
+      go (Some x) = give_kept l way v (hourly_rate x.thousandths x.unit) s w
 
   -- ---- a timed pause
   pub pause_kept : (left : ℕ) → is_sound_work d here r.rate (Pausing left) ≡ true → KeptRun phases look d (work_pause r left)

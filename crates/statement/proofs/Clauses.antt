@@ -1,5 +1,6 @@
 -- Clauses of soundness as tests and as facts: function data, what stands in which phase, rates, phases, visits, the line, the mode.
 -- Assumes nothing.
+use Rattle.std.specs.Prelude.{Option, Some, None}
 use Prim.Native.Nat.{ℕ, zero, suc, ◌≤◌, ◌<◌}
 use mathlib.Core.Path.{◌≡◌, refl, sym, ap, ◌∙◌}
 use mathlib.Core.Logic.{◌⊎◌, inl, inr, ⊎_elim, ◌↔◌}
@@ -10,6 +11,7 @@ use native.Mathlib.Omega.{arith}
 use lib.Dec.{leb}
 use lib.ListN.{length, get_or}
 use borrow.Author.Tests.{leb-true, le-leb, eqb-true, not-true}
+use Rattle.std.specs.Prelude.{Option}
 use Rattle.base.proofs.Choices.{and_left, and_right, and_false, false_true, within}
 use Rattle.base.proofs.Each.{and_both, either}
 use Rattle.decimal.proofs.Theorems.{writable_iff}
@@ -18,17 +20,16 @@ use Rattle.drive.specs.declared.syringe.Syringe.{Syringe}
 use Rattle.drive.proofs.Theorems.{usable_iff}
 use Rattle.words.specs.Functions.{fits, is_rate_phase, is_wait}
 use Rattle.words.specs.Phases.{is_sound_phase}
+use Rattle.words.specs.declared.answers.Alarm.{Alarm}
 use Rattle.words.specs.declared.functions.Function.{Function}
 use Rattle.words.specs.declared.functions.Function.TheVariants as f
 use Rattle.words.specs.declared.phases.Phase.{Phase}
 use Rattle.dispense.specs.Rates.{is_usable_rate}
 use Rattle.dispense.specs.declared.rates.Rate.{Rate}
-use Rattle.dispense.specs.declared.rates.Rate.TheVariants.{NoRate, Current}
 use Rattle.dispense.specs.declared.visits.Visit.{Visit}
 use Rattle.program.specs.Sound.{is_sound_visit, is_sound_mode}
 use Rattle.program.specs.declared.state.Mode.{Mode}
 use Rattle.program.specs.declared.state.Mode.TheVariants.{Stopped, Paused, Running}
-use Rattle.program.specs.declared.state.Pending.{Pending}
 use Rattle.program.specs.declared.state.Run.{Run}
 use Rattle.program.proofs.Parts.{phase_clauses, phase_sound, visit_clauses, visit_sound, idle_clauses, idle_sound}
 use Rattle.line.specs.Characters.{can_stand}
@@ -130,16 +131,16 @@ module _ (phases : ℕ) where
       (phases_test ps (λ i k. h (suc i) (omega arith)))
 
 -- ---- a visit
-usable_rate : (d : Syringe) (rate : Rate) → (is_usable_rate d rate ≡ true) ↔ Usable d rate
-usable_rate d NoRate = ((λ h. false_true h), (λ u. absurd u))
-usable_rate d (Current unit r) = usable_iff d r unit
+usable_rate : (d : Syringe) (rate : Option Rate) → (is_usable_rate d rate ≡ true) ↔ Usable d rate
+usable_rate d None = ((λ h. false_true h), (λ u. absurd u))
+usable_rate d (Some r) = usable_iff d r.thousandths r.unit
 
 -- no volume has no target
 no_target : (d : Syringe) (volume : ℕ) → volume ≡ 0 → step_target d volume ≡ 0
 unfolding step_target volume_in_fl
 no_target d volume e = rw e (simp (zero-mul, zero-div))
 
-module _ (d : Syringe) (here : Phase) (rate : Rate) (v : Visit) where
+module _ (d : Syringe) (here : Phase) (rate : Option Rate) (v : Visit) where
   pub visit_facts : is_sound_visit d here rate v ≡ true → VisitFacts d here rate v
   visit_facts h =
       let c = visit_clauses d here rate v h in
@@ -229,12 +230,12 @@ module _ (l : Line) where
 
 -- ---- the mode: a stopped pump has nothing under way
 module _ (r : Run) where
-  pub nothing : (a : Pending) → is_sound_mode r (Stopped a) ≡ true → Nothing r
+  pub nothing : (a : Option Alarm) → is_sound_mode r (Stopped a) ≡ true → Nothing r
   nothing a h =
       let c = idle_clauses r h in
       record { no_work = c.no_work; no_trap = c.no_trap; no_loop = c.no_loop; no_rate = c.no_rate }
 
-  pub mode_test : (m : Mode) → ((a : Pending) → m ≡ Stopped a → Nothing r) → is_sound_mode r m ≡ true
+  pub mode_test : (m : Mode) → ((a : Option Alarm) → m ≡ Stopped a → Nothing r) → is_sound_mode r m ≡ true
   mode_test (Stopped a) n =
       let k = n a refl in
       idle_sound r (record { no_work = k.no_work; no_trap = k.no_trap; no_loop = k.no_loop; no_rate = k.no_rate })

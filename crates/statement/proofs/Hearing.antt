@@ -1,6 +1,6 @@
 -- What a text and a byte make the pump say, as the relations HearsText and Hears and as the definitions of the calls: the two agree.
 -- Assumes nothing.
-use Rattle.std.specs.Prelude.{if◌then◌else◌}
+use Rattle.std.specs.Prelude.{if◌then◌else◌, Option, Some, None}
 use Prim.Native.Nat.{ℕ, ◌+◌, ◌≤◌, ◌<◌}
 use mathlib.Core.Path.{◌≡◌, refl, sym, ap, ◌∙◌, subst}
 use mathlib.Core.Bool.{Bool, true, false}
@@ -8,14 +8,13 @@ use lib.Dec.{leb, eqb}
 use lib.ListN.{take}
 use borrow.Author.Tests.{eqb-true, eqb-false, eq-eqb, ne_eqb, le-leb, lt-leb, leb-true, leb-false}
 use Rattle.words.specs.declared.answers.Reply.TheVariants as reply
+use Rattle.words.specs.declared.answers.Alarm.{Alarm}
 use Rattle.words.specs.declared.commands.Asked.{Asked}
 use Rattle.words.specs.declared.commands.Command.{Command}
 use Rattle.words.specs.declared.commands.Request.{Request}
 use Rattle.words.specs.declared.commands.Request.TheVariants as r
 use Rattle.program.specs.Runs.{pending}
 use Rattle.program.specs.Statuses.{in_hand}
-use Rattle.program.specs.declared.state.Pending.{Pending}
-use Rattle.program.specs.declared.state.Pending.TheVariants.{NoAlarm, Raised}
 use Rattle.line.specs.Characters.{is_return, is_dropped, arrival_of, raised}
 use Rattle.line.specs.Lines.{after_arrival, after_byte}
 use Rattle.line.specs.Requests.{asked_in, asked_of}
@@ -41,7 +40,7 @@ use Rattle.statement.specs.Outcomes.{Hears, collected, line_ends, packet_goes_on
 -- ---- a text
 module _ (p : Pump) (asked : Asked) where
   -- of ours, by what is pending, and by what is asked
-  abbrev ours_with : Pending → Listened
+  abbrev ours_with : Option Alarm → Listened
   ours_with x =
       listened_to p
       (device.ours_by p.device asked.request (phase_at p.phases (in_hand (core_of p)))
@@ -61,7 +60,7 @@ module _ (p : Pump) (asked : Asked) where
   unfolding after_text device.hear_text
   text_other n = simp (ne_eqb asked.address 0 n)
 
-  text_met : asked.address ≡ 0 → pending (run_of p) ≡ NoAlarm → after_text p asked ≡ met_with asked.request
+  text_met : asked.address ≡ 0 → pending (run_of p) ≡ None → after_text p asked ≡ met_with asked.request
   text_met e k = text_ours e ∙ ap ours_with k
 
   met_limit : (n : ℕ) → n ≤ 255 → met_with (r.SetLimit n) ≡ listened_to p (device.replied (device.with_link p.device (limited_to n)) reply.Status)
@@ -87,7 +86,7 @@ module _ (p : Pump) (asked : Asked) where
   text_is l (obeys command z k e) = sym (text_met z k ∙ ap met_with e ∙ met_command command)
 
   -- and back
-  met_heard : asked.address ≡ 0 → pending (run_of p) ≡ NoAlarm → (x : Request) → asked.request ≡ x → HearsText p asked (met_with x)
+  met_heard : asked.address ≡ 0 → pending (run_of p) ≡ None → (x : Request) → asked.request ≡ x → HearsText p asked (met_with x)
   met_heard z k r.AskLimit e = asks_limit z k e
   met_heard z k (r.SetLimit n) e = go (leb n 255) refl
     where
@@ -100,9 +99,9 @@ module _ (p : Pump) (asked : Asked) where
           subst (HearsText p asked) (sym (met_great n many)) (limit_too_great n z k e many)
   met_heard z k (r.Pump command) e = subst (HearsText p asked) (sym (met_command command)) (obeys command z k e)
 
-  ours_heard : asked.address ≡ 0 → (x : Pending) → pending (run_of p) ≡ x → HearsText p asked (ours_with x)
-  ours_heard z (Raised a) k = alarm_pending a z k
-  ours_heard z NoAlarm k = met_heard z k asked.request refl
+  ours_heard : asked.address ≡ 0 → (x : Option Alarm) → pending (run_of p) ≡ x → HearsText p asked (ours_with x)
+  ours_heard z (Some a) k = alarm_pending a z k
+  ours_heard z None k = met_heard z k asked.request refl
 
   pub text_heard : HearsText p asked (after_text p asked)
   text_heard = go (eqb asked.address 0) refl

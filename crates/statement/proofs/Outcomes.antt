@@ -3,6 +3,7 @@
 --     outcome_unique   two outcomes that meet it are equal
 --     meets_iff        so an outcome meets it exactly where it is the call's
 -- Assumes nothing.
+use Rattle.std.specs.Prelude.{Option, None, Some}
 use Prim.Native.Nat.{ℕ, zero, suc, ◌+◌, ◌<◌}
 use mathlib.Core.Path.{◌≡◌, refl, sym, ap, ap₂, ◌∙◌, subst}
 use mathlib.Core.Logic.{◌↔◌}
@@ -27,7 +28,7 @@ use Rattle.pump.specs.Reports.{refusal_number}
 use Rattle.pump.specs.declared.calls.Listened.{Listened}
 use Rattle.pump.specs.declared.holder.Pump.{Pump}
 use Rattle.pump.specs.declared.reports.Refusal.{Refusal}
-use Rattle.pump.specs.declared.reports.Refusal.TheVariants.{Accepted, ShortBuffer, NoPin, NoLevel, Unsound, TooManyTicks}
+use Rattle.pump.specs.declared.reports.Refusal.TheVariants.{ShortBuffer, NoPin, NoLevel, Unsound, TooManyTicks}
 use Rattle.pump.specs.declared.reports.Report.{Report}
 use Rattle.statement.specs.Facts.{core_of, link_of}
 use Rattle.statement.specs.Histories.{Call, byte_in, pin_at, tick_in, ticks_in, buffer_before, after, event_of, trace, single_ticks}
@@ -61,23 +62,23 @@ call_meets p call = go (verdict p call)
         d
 
 -- ---- refusals of one number are equal
-abbrev refusal_at : ℕ → Refusal
-refusal_at zero = Accepted
-refusal_at (suc zero) = ShortBuffer
-refusal_at (suc (suc zero)) = NoPin
-refusal_at (suc (suc (suc zero))) = NoLevel
-refusal_at (suc (suc (suc (suc zero)))) = Unsound
-refusal_at (suc (suc (suc (suc (suc n))))) = TooManyTicks
+abbrev refusal_at : ℕ → Option Refusal
+refusal_at zero = None
+refusal_at (suc zero) = Some ShortBuffer
+refusal_at (suc (suc zero)) = Some NoPin
+refusal_at (suc (suc (suc zero))) = Some NoLevel
+refusal_at (suc (suc (suc (suc zero)))) = Some Unsound
+refusal_at (suc (suc (suc (suc (suc n))))) = Some TooManyTicks
 
-at_number : (x : Refusal) → refusal_at (refusal_number x) ≡ x
-at_number Accepted = refl
-at_number ShortBuffer = refl
-at_number NoPin = refl
-at_number NoLevel = refl
-at_number Unsound = refl
-at_number TooManyTicks = refl
+at_number : (x : Option Refusal) → refusal_at (refusal_number x) ≡ x
+at_number None = refl
+at_number (Some ShortBuffer) = refl
+at_number (Some NoPin) = refl
+at_number (Some NoLevel) = refl
+at_number (Some Unsound) = refl
+at_number (Some TooManyTicks) = refl
 
-number_tells : (x y : Refusal) → refusal_number x ≡ refusal_number y → x ≡ y
+number_tells : (x y : Option Refusal) → refusal_number x ≡ refusal_number y → x ≡ y
 number_tells x y e = sym (at_number x) ∙ ap refusal_at e ∙ at_number y
 
 -- ---- two outcomes that meet it are equal

@@ -1,20 +1,19 @@
 -- What a tick leaves and sends, as the relation Raises and as the definitions of the calls: the two agree.
 -- Assumes nothing.
-use Rattle.std.specs.Prelude.{if◌then◌else◌}
+use Rattle.std.specs.Prelude.{if◌then◌else◌, Option, Some, None}
 use Prim.Native.Nat.{ℕ}
 use mathlib.Core.Path.{◌≡◌, refl, sym, ap, ◌∙◌}
 use mathlib.Core.Bool.{Bool, true, false}
 use native.Mathlib.Omega.{arith}
 use lib.Dec.{eqb}
 use borrow.Author.Tests.{eqb-true, eqb-false, eq-eqb, ne_eqb}
+use Rattle.words.specs.declared.answers.Alarm.{Alarm}
 use Rattle.words.specs.declared.answers.Alarm.TheVariants.{TimeOut}
 use Rattle.words.specs.declared.answers.Said.{Said}
 use Rattle.words.specs.declared.answers.Said.TheVariants as s
 use Rattle.words.specs.declared.phases.Phase.{Phase}
 use Rattle.program.specs.Runs.{pending}
 use Rattle.program.specs.declared.state.Core.{Core}
-use Rattle.program.specs.declared.state.Pending.{Pending}
-use Rattle.program.specs.declared.state.Pending.TheVariants.{NoAlarm, Raised}
 use Rattle.tick.specs.declared.Moved.{Moved}
 use Rattle.soundness.specs.Kept.{Kept}
 use Rattle.link.specs.Link.{is_safe, ticks_left, fires}
@@ -51,21 +50,21 @@ module _ (p : Pump) (m : Moved) where
           → eqb (ticks_left (link_of p)) 1 ≡ f
           → (u : Bool)
           → is_safe (link_of p) ≡ u
-          → (x : Pending)
+          → (x : Option Alarm)
           → pending (run_of p) ≡ x
-          → (y : Pending)
+          → (y : Option Alarm)
           → pending m.core.run ≡ y
           → Raises p m (if f then time_out m.core else m.core)
-          (if u then alarm_said (if f then Raised TimeOut else new_alarm x y) else s.Nothing)
+          (if u then alarm_said (if f then Some TimeOut else new_alarm x y) else s.Nothing)
       go true e true k x h y g = limit_ends (eqb-true (ticks_left (link_of p)) 1 e)
       go true e false k x h y g =
           let one = eqb-true (ticks_left (link_of p)) 1 e in
           let none = no_timer (link_of p) k in
           absurd (omega arith)
       go false e false k x h y g = not_sent k
-      go false e true k (Raised a) h y g = alarm_old a (eqb-false (ticks_left (link_of p)) 1 e) h
-      go false e true k NoAlarm h NoAlarm g = no_alarm (eqb-false (ticks_left (link_of p)) 1 e) g
-      go false e true k NoAlarm h (Raised a) g = alarm_new a (eqb-false (ticks_left (link_of p)) 1 e) k h g
+      go false e true k (Some a) h y g = alarm_old a (eqb-false (ticks_left (link_of p)) 1 e) h
+      go false e true k None h None g = no_alarm (eqb-false (ticks_left (link_of p)) 1 e) g
+      go false e true k None h (Some a) g = alarm_new a (eqb-false (ticks_left (link_of p)) 1 e) k h g
 
   -- ---- and whatever meets the relation is what the definitions say
   at_limit : ticks_left (link_of p) ≡ 1 → (time_out m.core ≡ core) × (s.Alarm TimeOut ≡ sends)
@@ -87,27 +86,27 @@ module _ (p : Pump) (m : Moved) where
   unfolding sent
   by_alarms u k f = simp (k, f)
 
-  nothing_new : fires (link_of p) ≡ false → new_alarm (pending (run_of p)) (pending m.core.run) ≡ NoAlarm → s.Nothing ≡ sends
+  nothing_new : fires (link_of p) ≡ false → new_alarm (pending (run_of p)) (pending m.core.run) ≡ None → s.Nothing ≡ sends
   nothing_new f z = sym (by_alarms (is_safe (link_of p)) refl f ∙ go (is_safe (link_of p)))
     where
       go : (u : Bool) → (if u then alarm_said (new_alarm (pending (run_of p)) (pending m.core.run)) else s.Nothing) ≡ s.Nothing
       go true = ap alarm_said z
       go false = refl
 
-  none_behind : (x : Pending) → new_alarm x NoAlarm ≡ NoAlarm
-  none_behind NoAlarm = refl
-  none_behind (Raised a) = refl
+  none_behind : (x : Option Alarm) → new_alarm x None ≡ None
+  none_behind None = refl
+  none_behind (Some a) = refl
 
   pub raises_is : (c : Core) (x : Said) → Raises p m c x → (c ≡ core) × (x ≡ sends)
   raises_is c x (limit_ends e) = at_limit e
   raises_is c x (alarm_new a n k h g) =
       let f = not_fires n in (
         apart_limit f,
-        sym (by_alarms true k f ∙ ap (λ (z : Pending). alarm_said (new_alarm z (pending m.core.run))) h ∙ ap alarm_said g),
+        sym (by_alarms true k f ∙ ap (λ (z : Option Alarm). alarm_said (new_alarm z (pending m.core.run))) h ∙ ap alarm_said g),
       )
   raises_is c x (alarm_old a n h) =
       let f = not_fires n in
-      (apart_limit f, nothing_new f (ap (λ (z : Pending). new_alarm z (pending m.core.run)) h))
+      (apart_limit f, nothing_new f (ap (λ (z : Option Alarm). new_alarm z (pending m.core.run)) h))
   raises_is c x (no_alarm n g) =
       let f = not_fires n in
       (apart_limit f, nothing_new f (ap (new_alarm (pending (run_of p))) g ∙ none_behind (pending (run_of p))))

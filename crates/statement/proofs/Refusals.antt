@@ -2,6 +2,7 @@
 -- not refuse has a sound state and arguments in their ranges.
 --     refused_down   a call that the table refuses is turned down, with the table's number
 -- Assumes nothing.
+use Rattle.std.specs.Prelude.{Option, Some}
 use Prim.Native.Nat.{ℕ, ◌≤◌, ◌<◌}
 use mathlib.Core.Path.{◌≡◌, refl, sym, ◌∙◌, subst}
 use mathlib.Core.Logic.{inl, inr}
@@ -52,10 +53,10 @@ is_pin_lem pin h = go (eqb pin 2) (eqb pin 4) (eqb pin 6) refl refl refl h
     go false false false e f g h = false_true h
 
 -- ---- what a call hands back where it is refused
-abbrev down : Pump → Refusal → List ℕ → Outcome
+abbrev down : Pump → Option Refusal → List ℕ → Outcome
 down p x before = record { report = reports.refused p x; buffer = before }
 
-turned : (p : Pump) (x : Refusal) (before : List ℕ) → TurnedDown p (refusal_number x) before (down p x before)
+turned : (p : Pump) (x : Option Refusal) (before : List ℕ) → TurnedDown p (refusal_number x) before (down p x before)
 turned p x before =
     record {
       number = refl;
@@ -70,7 +71,7 @@ turned p x before =
     }
 
 module _ (p : Pump) where
-  unsound_down : (call : Call) → is_sound_pump p ≡ false → outcome_of p call ≡ down p Unsound (buffer_before call)
+  unsound_down : (call : Call) → is_sound_pump p ≡ false → outcome_of p call ≡ down p (Some Unsound) (buffer_before call)
   unfolding byte_report byte_buffer pin_call tick_call tick_buffer ticks_call ticks_buffer of_pin of_byte of_ticks
   unsound_down (byte_in b buffer) e = rw e refl
   unsound_down (pin_at pin level) e = rw e refl
@@ -81,25 +82,25 @@ module _ (p : Pump) where
       (b : ℕ) (buffer : List ℕ)
       → is_sound_pump p ≡ true
       → length buffer < 24
-      → outcome_of p (byte_in b buffer) ≡ down p ShortBuffer buffer
+      → outcome_of p (byte_in b buffer) ≡ down p (Some ShortBuffer) buffer
   unfolding byte_report byte_buffer of_byte
   short_down b buffer e h = rw (e, lt-ltb (length buffer) 24 h) refl
 
-  pin_down : (pin level : ℕ) → is_sound_pump p ≡ true → is_pin pin ≡ false → pin_call p pin level ≡ reports.refused p NoPin
+  pin_down : (pin level : ℕ) → is_sound_pump p ≡ true → is_pin pin ≡ false → pin_call p pin level ≡ reports.refused p (Some NoPin)
   unfolding pin_call of_pin
   pin_down pin level e h = rw (e, h) refl
 
-  level_down : (pin level : ℕ) → is_sound_pump p ≡ true → is_pin pin ≡ true → 1 < level → pin_call p pin level ≡ reports.refused p NoLevel
+  level_down : (pin level : ℕ) → is_sound_pump p ≡ true → is_pin pin ≡ true → 1 < level → pin_call p pin level ≡ reports.refused p (Some NoLevel)
   unfolding pin_call of_pin
   level_down pin level e k h = rw (e, k, lt-ltb 1 level h) refl
 
   tick_down :
-      (buffer : List ℕ) → is_sound_pump p ≡ true → length buffer < 24 → outcome_of p (tick_in buffer) ≡ down p ShortBuffer buffer
+      (buffer : List ℕ) → is_sound_pump p ≡ true → length buffer < 24 → outcome_of p (tick_in buffer) ≡ down p (Some ShortBuffer) buffer
   unfolding tick_call tick_buffer of_byte
   tick_down buffer e h = rw (e, lt-ltb (length buffer) 24 h) refl
 
   ticks_down :
-      (n : ℕ) (buffer : List ℕ) → is_sound_pump p ≡ true → length buffer < 24 → outcome_of p (ticks_in n buffer) ≡ down p ShortBuffer buffer
+      (n : ℕ) (buffer : List ℕ) → is_sound_pump p ≡ true → length buffer < 24 → outcome_of p (ticks_in n buffer) ≡ down p (Some ShortBuffer) buffer
   unfolding ticks_call ticks_buffer of_ticks
   ticks_down n buffer e h = rw (e, lt-ltb (length buffer) 24 h) refl
 
@@ -108,27 +109,27 @@ module _ (p : Pump) where
       → is_sound_pump p ≡ true
       → 24 ≤ length buffer
       → 1_000_000 < n
-      → outcome_of p (ticks_in n buffer) ≡ down p TooManyTicks buffer
+      → outcome_of p (ticks_in n buffer) ≡ down p (Some TooManyTicks) buffer
   unfolding ticks_call ticks_buffer of_ticks
   many_down n buffer e h k = rw (e, le-ltb (length buffer) 24 h, lt-ltb 1_000_000 n k) refl
 
 pub refused_down : (p : Pump) (call : Call) (k : ℕ) → RefusedAs p call k → TurnedDown p k (buffer_before call) (outcome_of p call)
 refused_down p call k (not_sound any n) =
-    subst (TurnedDown p 4 (buffer_before any)) (sym (unsound_down p any (unsound_test p n))) (turned p Unsound (buffer_before any))
+    subst (TurnedDown p 4 (buffer_before any)) (sym (unsound_down p any (unsound_test p n))) (turned p (Some Unsound) (buffer_before any))
 refused_down p call k (short_buffer b buffer s h) =
-    subst (TurnedDown p 1 buffer) (sym (short_down p b buffer (sound_test p s) h)) (turned p ShortBuffer buffer)
+    subst (TurnedDown p 1 buffer) (sym (short_down p b buffer (sound_test p s) h)) (turned p (Some ShortBuffer) buffer)
 refused_down p call k (no_such_pin pin level s n) =
     subst (λ r. TurnedDown p 2 [] (record { report = r; buffer = [] })) (sym (pin_down p pin level (sound_test p s) (no_pin_test pin n)))
-    (turned p NoPin [])
+    (turned p (Some NoPin) [])
 refused_down p call k (no_such_level pin level s y h) =
     subst (λ r. TurnedDown p 3 [] (record { report = r; buffer = [] })) (sym (level_down p pin level (sound_test p s) (pin_test pin y) h))
-    (turned p NoLevel [])
+    (turned p (Some NoLevel) [])
 refused_down p call k (short_for_tick buffer s h) =
-    subst (TurnedDown p 1 buffer) (sym (tick_down p buffer (sound_test p s) h)) (turned p ShortBuffer buffer)
+    subst (TurnedDown p 1 buffer) (sym (tick_down p buffer (sound_test p s) h)) (turned p (Some ShortBuffer) buffer)
 refused_down p call k (short_for_ticks n buffer s h) =
-    subst (TurnedDown p 1 buffer) (sym (ticks_down p n buffer (sound_test p s) h)) (turned p ShortBuffer buffer)
+    subst (TurnedDown p 1 buffer) (sym (ticks_down p n buffer (sound_test p s) h)) (turned p (Some ShortBuffer) buffer)
 refused_down p call k (too_many n buffer s h m) =
-    subst (TurnedDown p 5 buffer) (sym (many_down p n buffer (sound_test p s) h m)) (turned p TooManyTicks buffer)
+    subst (TurnedDown p 5 buffer) (sym (many_down p n buffer (sound_test p s) h m)) (turned p (Some TooManyTicks) buffer)
 
 pub refused_some : (p : Pump) (call : Call) (k : ℕ) → RefusedAs p call k → k ≡ 0 → ⊥
 refused_some p call k (not_sound any n) e = omega arith

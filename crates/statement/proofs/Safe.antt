@@ -7,7 +7,7 @@
 --     limit_set         SAF n leaves 1,000 n ticks
 --     time_out_at       k ticks later the next one raises alarm T exactly where k + 1 were left
 -- Assumes nothing.
-use Rattle.std.specs.Prelude.{if◌then◌else◌}
+use Rattle.std.specs.Prelude.{if◌then◌else◌, Option, Some, None}
 use Prim.Native.Nat.{ℕ, zero, suc, ◌+◌, ◌-◌, ◌*◌, ◌≤◌}
 use mathlib.Core.Path.{◌≡◌, refl, sym, ap, ◌∙◌, subst}
 use mathlib.Core.Logic.{◌⊎◌, inl, inr, ◌↔◌}
@@ -21,6 +21,7 @@ use Rattle.words.specs.Functions.{is_phase}
 use Rattle.words.specs.declared.answers.Said.{Said}
 use Rattle.words.specs.declared.answers.Said.TheVariants as said
 use Rattle.words.specs.declared.answers.Status.{Status}
+use Rattle.words.specs.declared.answers.Alarm.{Alarm}
 use Rattle.words.specs.declared.commands.Asked.{Asked}
 use Rattle.words.specs.declared.commands.Command.{Command}
 use Rattle.words.specs.declared.commands.Request.TheVariants as request
@@ -28,8 +29,6 @@ use Rattle.words.specs.declared.phases.Phase.{Phase}
 use Rattle.program.specs.Runs.{pending}
 use Rattle.program.specs.Statuses.{in_hand, status_run}
 use Rattle.program.specs.declared.state.Core.{Core}
-use Rattle.program.specs.declared.state.Pending.{Pending}
-use Rattle.program.specs.declared.state.Pending.TheVariants.{NoAlarm, Raised}
 use Rattle.command.specs.declared.obeying.Edit.{Edit}
 use Rattle.command.specs.declared.obeying.Edit.TheVariants.{Keep, Write, Renew}
 use Rattle.line.specs.Lines.{empty_line, line_text}
@@ -41,14 +40,12 @@ use Rattle.packet.specs.Packets.{stx, check_bytes, Heard, nothing, wrong, good}
 use Rattle.packet.specs.Streams.{Among, HoldsPacket}
 use Rattle.packet.specs.declared.receiver.Outcome as outcome
 use Rattle.packet.specs.declared.receiver.Outcome.TheVariants as packet
-use Rattle.packet.specs.declared.receiver.Place.TheVariants.{Outside}
 use Rattle.packet.specs.Follows as receiver
 use Rattle.packet.proofs.Judging.{nothing_good, wrong_good}
 use Rattle.packet.proofs.Theorems.{damaged, receiver_good_only}
 use Rattle.link.specs.Link.{receiver_of, limited_to, is_safe, ticks_left, fires, link_tick, link_ticks, link_after, cleared_link}
 use Rattle.link.specs.Streams.{heard_of, link_answers}
 use Rattle.link.specs.declared.Link.{Link}
-use Rattle.link.specs.declared.Mode.TheVariants.{Safe}
 use Rattle.link.specs.declared.Safety.{Safety}
 use Rattle.link.specs.declared.Taken.{Taken}
 use Rattle.link.proofs.Hearing.{hears, means}
@@ -74,7 +71,7 @@ use Rattle.statement.proofs.Links.{safe_mode}
 
 -- ---- outside a packet
 pub outside_nothing :
-    (p : Pump) (s : Safety) (b : ℕ) → (link_of p).mode ≡ Safe s → s.place ≡ Outside → (b ≡ stx → ⊥) → hear p b ≡ quiet p
+    (p : Pump) (s : Safety) (b : ℕ) → (link_of p).safety ≡ Some s → s.part ≡ None → (b ≡ stx → ⊥) → hear p b ≡ quiet p
 outside_nothing p s b e o n =
     in_packet p b (safe_mode (link_of p) s e)
     ∙ ap (λ (t : Taken). told_by p t.link t.outcome) (links.outside_ignored (link_of p) s b e o n)
@@ -144,8 +141,8 @@ only_com p (wrong ∷ hs) = (inr refl, only_com p hs)
 only_com p (good d ∷ hs) = (inl refl, only_com p hs)
 
 -- ---- from outside a packet, in a whole pump in Safe mode
-module _ (p : Pump) (w : Whole p) (s : Safety) (e : (link_of p).mode ≡ Safe s) (o : s.place ≡ Outside) where
-  held : receiver.Sound (receiver_of (link_of p).bytes s.place)
+module _ (p : Pump) (w : Whole p) (s : Safety) (e : (link_of p).safety ≡ Some s) (o : s.part ≡ None) where
+  held : receiver.Sound (receiver_of (link_of p).bytes s.part)
   held = record { places = w.packet_places; tested = (stands (link_of p) s (pump_link p w.sound) e).received }
 
   pub noise_only :
@@ -154,7 +151,7 @@ module _ (p : Pump) (w : Whole p) (s : Safety) (e : (link_of p).mode ≡ Safe s)
       → Every (OnlyCom p) (sayings p bs) × Untouched p (behind p bs)
   noise_only bs n =
       let none : NoneGood (link_answers (link_of p) bs) =
-      λ d m. n d (receiver_good_only (receiver_of (link_of p).bytes s.place) bs d held o (subst (Among (good d)) (hears bs (link_of p) s e) m)) in
+      λ d m. n d (receiver_good_only (receiver_of (link_of p).bytes s.part) bs d held o (subst (Among (good d)) (hears bs (link_of p) s e) m)) in
       let safe = safe_mode (link_of p) s e in (
         subst (Every (OnlyCom p)) (sym (said_without_good p (link_of p) bs safe none)) (only_com p (link_answers (link_of p) bs)),
         left_without_good p (link_of p) bs safe none,
@@ -269,15 +266,15 @@ module _ (p : Pump) (l m : Line) (k j : Link) (asked : Asked) (command : Command
   pub text_alike : Alike (after_text one asked) (after_text other asked)
   text_alike = go (eqb asked.address 0) refl (pending (run_of p)) refl
     where
-      go : (t : Bool) → eqb asked.address 0 ≡ t → (x : Pending) → pending (run_of p) ≡ x → Alike (after_text one asked) (after_text other asked)
+      go : (t : Bool) → eqb asked.address 0 ≡ t → (x : Option Alarm) → pending (run_of p) ≡ x → Alike (after_text one asked) (after_text other asked)
       go false e x h =
           let n = eqb-false asked.address 0 e in
           both_alike (text_other one asked n) (text_other other asked n) (record { said = refl; phases = refl; core = refl })
-      go true e (Raised a) h =
+      go true e (Some a) h =
           let z = eqb-true asked.address 0 e in
           both_alike (sym (text_is one asked _ (alarm_pending a z h))) (sym (text_is other asked _ (alarm_pending a z h)))
           (record { said = refl; phases = refl; core = refl })
-      go true e NoAlarm h =
+      go true e None h =
           let z = eqb-true asked.address 0 e in
           both_alike (sym (text_is one asked _ (obeys command z h is))) (sym (text_is other asked _ (obeys command z h is))) obeyed_alike
 

@@ -5,14 +5,13 @@ use Prim.Native.Nat.{ℕ}
 use mathlib.Core.Path.{◌≡◌, refl, sym, ap, ◌∙◌}
 use mathlib.Core.Logic.{◌↔◌}
 use mathlib.Core.Bool.{true}
+use Rattle.std.specs.Prelude.{Option, Some, None}
 use Rattle.decimal.proofs.Theorems.{writable_iff}
 use Rattle.drive.specs.Syringe.{is_diameter}
 use Rattle.drive.specs.declared.directions.Direction.TheVariants.{Infuse, Withdraw}
 use Rattle.words.specs.Functions.{is_wait, pause_ticks}
 use Rattle.loops.proofs.Soundness.{count_le, loop_bounded, loops_differ, sound_of}
 use Rattle.program.specs.Sound.{is_sound_trap, is_sound_mode, is_sound_work}
-use Rattle.program.specs.declared.state.Trap.{Trap}
-use Rattle.program.specs.declared.state.Trap.TheVariants.{NoTrap, Armed}
 use Rattle.program.specs.declared.state.Work.{Work}
 use Rattle.program.specs.declared.state.Work.TheVariants.{Entering, Visiting, Pausing, Waiting}
 use Rattle.program.proofs.Parts.{ledger_clauses, ledger_sound, RunClauses, run_clauses, run_sound, CoreClauses, core_clauses, core_sound}
@@ -71,9 +70,9 @@ module _ (p : Pump) (e : is_sound_pump p ≡ true) where
 
 -- ---- and back
 module _ (p : Pump) (s : Sound p) where
-  trap_test : (t : Trap) → (run_of p).trap ≡ t → is_sound_trap (phase_count p) t ≡ true
-  trap_test NoTrap e = refl
-  trap_test (Armed n) e = (between 1 n (phase_count p)).1 (s.ranges.trap n e)
+  trap_test : (t : Option ℕ) → (run_of p).trap ≡ t → is_sound_trap (phase_count p) t ≡ true
+  trap_test None e = refl
+  trap_test (Some n) e = (between 1 n (phase_count p)).1 (s.ranges.trap n e)
 
   run_test : RunClauses (phase_count p) (run_of p)
   run_test =

@@ -6,6 +6,7 @@ use mathlib.Core.Bool.{Bool, true, ◌||◌, not}
 use mathlib.Core.List.{List}
 use lib.Dec.{eqb}
 use lib.ListN.{length, replicate}
+use Rattle.std.specs.Prelude.{Some}
 use Rattle.base.proofs.Each.{and_both}
 use Rattle.decimal.specs.Writable.{is_writable}
 use Rattle.words.specs.Phases.{power_up, is_sound_phase}
@@ -13,7 +14,6 @@ use Rattle.words.specs.declared.answers.Alarm.TheVariants.{TimeOut}
 use Rattle.words.specs.declared.phases.Phase.{Phase}
 use Rattle.program.specs.declared.state.Core.{Core}
 use Rattle.program.specs.Sound.{is_sound_core}
-use Rattle.program.specs.declared.state.Pending.TheVariants.{Raised}
 use Rattle.program.proofs.Parts.{core_clauses, run_clauses}
 use Rattle.soundness.specs.Kept.{Kept}
 use Rattle.soundness.proofs.Cores.{power_up_sound, with_run_kept}
@@ -132,7 +132,7 @@ module _ (p : Pump) where
 pub kept_time_out : (phases : ℕ) (look : ℕ → Phase) (s : Core) → Kept phases look s → Kept phases look (time_out s)
 kept_time_out phases look s kept =
     let core = core_clauses phases s (look s.run.place.current) kept in
-    with_run_kept phases look s kept _ (stop_kept phases look s.syringe s.run (run_clauses phases s.run core.under_way_lem) (Raised TimeOut))
+    with_run_kept phases look s kept _ (stop_kept phases look s.syringe s.run (run_clauses phases s.run core.under_way_lem) (Some TimeOut))
 
 pub linked_sound :
     (p : Pump) (l : Link)

@@ -3,13 +3,13 @@
 -- field here: the store is 0 outside a visit, at most one of visit, timed pause and trigger wait is under way, and an alarm is pending
 -- only in a stopped pump; in Basic mode there is neither a timer nor a part packet, a limit is at most 255, a part packet has a length of
 -- 4 to 44, fewer bytes than that, and its check right once both check bytes are in.   (01, Calls; Numbers; Volumes; 02, 2/12)
-use Rattle.std.specs.Prelude.{ℕ, ◌+◌, ◌*◌, ◌≤◌, ◌<◌, ◌≡◌, ◌⊎◌, true, List, length, get_or}
+use Rattle.std.specs.Prelude.{ℕ, ◌+◌, ◌*◌, ◌≤◌, ◌<◌, ◌≡◌, ◌⊎◌, true, List, length, get_or, Some, Option, None}
 use Rattle.decimal.specs.Read.{read}
-use Rattle.decimal.specs.declared.input.Reading.TheVariants.{Number}
 use Rattle.drive.specs.Rates.{hourly_rate}
 use Rattle.drive.specs.Syringe.{step_threshold, step_target}
 use Rattle.drive.specs.declared.syringe.Syringe.{Syringe}
 use Rattle.words.specs.Functions.{pause_ticks}
+use Rattle.words.specs.declared.answers.Alarm.{Alarm}
 use Rattle.words.specs.declared.functions.Function.{Function}
 use Rattle.words.specs.declared.functions.Function.TheVariants as f
 use Rattle.words.specs.declared.phases.Phase.{Phase}
@@ -17,22 +17,17 @@ use Rattle.loops.specs.Loops.{no_loop, opened}
 use Rattle.loops.specs.declared.Loop.{Loop}
 use Rattle.dispense.specs.Rates.{thousandths}
 use Rattle.dispense.specs.declared.rates.Rate.{Rate}
-use Rattle.dispense.specs.declared.rates.Rate.TheVariants.{NoRate, Current}
 use Rattle.dispense.specs.declared.visits.Visit.{Visit}
 use Rattle.program.specs.declared.state.Core.{Core}
 use Rattle.program.specs.declared.state.Mode.TheVariants.{Stopped}
-use Rattle.program.specs.declared.state.Pending.{Pending}
 use Rattle.program.specs.declared.state.Run.{Run}
-use Rattle.program.specs.declared.state.Trap.TheVariants.{NoTrap, Armed}
 use Rattle.program.specs.declared.state.Work.{Work}
 use Rattle.program.specs.declared.state.Work.TheVariants.{Entering, Visiting, Pausing, Waiting}
 use Rattle.line.specs.Lines.{line_text}
 use Rattle.line.specs.declared.lines.Line.{Line}
 use Rattle.packet.specs.Follows.{PlaceFact}
 use Rattle.link.specs.declared.Link.{Link}
-use Rattle.link.specs.declared.Mode.TheVariants.{Safe}
 use Rattle.link.specs.declared.Safety.{Safety}
-use Rattle.link.specs.declared.Timer.TheVariants.{Left}
 use Rattle.pump.specs.Holder.{phase_count, stop_phase, here_of}
 use Rattle.pump.specs.declared.device.Device.{Device}
 use Rattle.pump.specs.declared.holder.Pump.{Pump}
@@ -42,7 +37,7 @@ Between least n most = (least ≤ n) × (n ≤ most)
 
 -- a stored number is writable if some input gives it
 abbrev pub Writable : ℕ → Type 0
-Writable x = (s : List ℕ) × (read s ≡ Number x)
+Writable x = (s : List ℕ) × (read s ≡ Some x)
 
 -- a function's datum is in its range in a pump of so many phases: a phase from 1 to the last, counts 1 to 99, PAS up to 99 s or 0.1 to
 -- 9.9 s, levels 0 and 1
@@ -84,8 +79,8 @@ pub record LineFacts (l : Line) : Type 0 where
 -- 499 quiet ticks; and no line begun   (02, 2/12)
 pub record SafeFacts (v : Device) (s : Safety) : Type 0 where
   pub limited : 1 ≤ s.limit
-  pub timed : (t : ℕ) → s.timer ≡ Left t → Between 1 t (1000 * s.limit)
-  pub part : PlaceFact s.place
+  pub timed : (t : ℕ) → s.timer ≡ Some t → Between 1 t (1000 * s.limit)
+  pub part : PlaceFact s.part
   pub no_line : v.line.len ≡ 0
 
 -- ---- where things stand
@@ -114,17 +109,17 @@ pub record Ranges (p : Pump) : Type 0 where
   pub withdrawn : (core_of p).ledger.totals.withdrawn ≤ 1_000_000_000_000_000_000
   pub current : Between 1 (run_of p).place.current (phase_count p + 1)
   pub rate : thousandths (run_of p).rate ≤ 9_999_000
-  pub trap : (n : ℕ) → (run_of p).trap ≡ Armed n → Between 1 n (phase_count p)
+  pub trap : (n : ℕ) → (run_of p).trap ≡ Some n → Between 1 n (phase_count p)
   pub begun : (i : ℕ) → i < length (loops_of p) → (get_or (loops_of p) i no_loop).begun ≤ phase_count p
   pub line : LineFacts p.device.line
-  pub link : (s : Safety) → (link_of p).mode ≡ Safe s → SafeFacts p.device s
+  pub link : (s : Safety) → (link_of p).safety ≡ Some s → SafeFacts p.device s
 
 -- above 0, and at most four thresholds
-abbrev pub Usable : Syringe → Rate → Type 0
-Usable y NoRate = ⊥
-Usable y (Current unit r) = (0 < r) × (hourly_rate r unit ≤ 4 * step_threshold y)
+abbrev pub Usable : Syringe → Option Rate → Type 0
+Usable y None = ⊥
+Usable y (Some r) = (0 < r.thousandths) × (hourly_rate r.thousandths r.unit ≤ 4 * step_threshold y)
 
-pub record VisitFacts (y : Syringe) (here : Phase) (rate : Rate) (v : Visit) : Type 0 where
+pub record VisitFacts (y : Syringe) (here : Phase) (rate : Option Rate) (v : Visit) : Type 0 where
   pub store_below : v.store < step_threshold y
   pub aimed : v.target ≡ step_target y here.volume
   pub given_below : (here.volume ≡ 0 → ⊥) → v.given < v.target
@@ -135,9 +130,9 @@ pub record VisitFacts (y : Syringe) (here : Phase) (rate : Rate) (v : Visit) : T
 -- none of the three, and no trap, loop or current rate
 pub record Nothing (r : Run) : Type 0 where
   pub no_work : r.place.work ≡ Entering
-  pub no_trap : r.trap ≡ NoTrap
+  pub no_trap : r.trap ≡ None
   pub no_loop : r.loops.count ≡ 0
-  pub no_rate : r.rate ≡ NoRate
+  pub no_rate : r.rate ≡ None
 
 pub record Sound (p : Pump) : Type 0 where
   -- every field is in its range, and stored numbers are writable
@@ -156,4 +151,4 @@ pub record Sound (p : Pump) : Type 0 where
   pub pause : (left : ℕ) → under_way p ≡ Pausing left → Between 1 left (pause_ticks (here_of p).function)
   pub wait : under_way p ≡ Waiting → (here_of p).function ≡ f.Pas 0
   -- a stopped pump has nothing under way
-  pub stopped : (alarm : Pending) → (run_of p).mode ≡ Stopped alarm → Nothing (run_of p)
+  pub stopped : (alarm : Option Alarm) → (run_of p).mode ≡ Stopped alarm → Nothing (run_of p)

@@ -1,6 +1,6 @@
 -- The outcome of every call as a relation between the given state, the arguments, the given buffer and what comes back. The call meets
 -- it, and no second outcome does (proofs/Outcomes.antt, call_meets and outcome_unique).   (01, Calls; Line and answer; 02, 1/12, 2/12)
-use Rattle.std.specs.Prelude.{ℕ, suc, ◌+◌, ◌≤◌, ◌<◌, ◌≡◌, ◌⊎◌, Bool, true, false, List, [], ◌∷◌, length, get_or, take}
+use Rattle.std.specs.Prelude.{ℕ, suc, ◌+◌, ◌≤◌, ◌<◌, ◌≡◌, ◌⊎◌, Bool, true, false, List, [], ◌∷◌, length, get_or, take, Some, None}
 use Rattle.words.specs.declared.answers.Alarm.{Alarm}
 use Rattle.words.specs.declared.answers.Alarm.TheVariants.{TimeOut}
 use Rattle.words.specs.declared.answers.Reply.TheVariants as reply
@@ -15,7 +15,6 @@ use Rattle.program.specs.Edges.{pin_two, pin_four, pin_six}
 use Rattle.program.specs.Runs.{pending, clear_alarm}
 use Rattle.program.specs.Statuses.{in_hand}
 use Rattle.program.specs.declared.state.Core.{Core}
-use Rattle.program.specs.declared.state.Pending.TheVariants.{NoAlarm, Raised}
 use Rattle.tick.specs.declared.Moved.{Moved}
 use Rattle.command.specs.Obeying.{obey}
 use Rattle.command.specs.declared.obeying.Obeyed.{Obeyed}
@@ -114,12 +113,12 @@ pub data Raises (p : Pump) (m : Moved) : Core → Said → Type 0 where
       (a : Alarm)
       → (ticks_left (link_of p) ≡ 1 → ⊥)
       → is_safe (link_of p) ≡ true
-      → pending (run_of p) ≡ NoAlarm
-      → pending m.core.run ≡ Raised a
+      → pending (run_of p) ≡ None
+      → pending m.core.run ≡ Some a
       → Raises p m m.core (s.Alarm a)
   alarm_old :
-      (a : Alarm) → (ticks_left (link_of p) ≡ 1 → ⊥) → pending (run_of p) ≡ Raised a → Raises p m m.core s.Nothing
-  no_alarm : (ticks_left (link_of p) ≡ 1 → ⊥) → pending m.core.run ≡ NoAlarm → Raises p m m.core s.Nothing
+      (a : Alarm) → (ticks_left (link_of p) ≡ 1 → ⊥) → pending (run_of p) ≡ Some a → Raises p m m.core s.Nothing
+  no_alarm : (ticks_left (link_of p) ≡ 1 → ⊥) → pending m.core.run ≡ None → Raises p m m.core s.Nothing
   not_sent : is_safe (link_of p) ≡ false → Raises p m m.core s.Nothing
 
 -- the phases and the line stay, the link has one tick less, and what is sent is a packet
@@ -201,30 +200,30 @@ pub data HearsText (p : Pump) (asked : Asked) : Listened → Type 0 where
   alarm_pending :
       (a : Alarm)
       → asked.address ≡ 0
-      → pending (run_of p) ≡ Raised a
+      → pending (run_of p) ≡ Some a
       → HearsText p asked (saying (pump_with_core p (with_run (core_of p) (clear_alarm (run_of p)))) (told.Alarm a))
   asks_limit :
       asked.address ≡ 0
-      → pending (run_of p) ≡ NoAlarm
+      → pending (run_of p) ≡ None
       → asked.request ≡ request.AskLimit
       → HearsText p asked (saying p (told.Reply (reply.Limit (limit_of (link_of p)))))
   sets_limit :
       (n : ℕ)
       → asked.address ≡ 0
-      → pending (run_of p) ≡ NoAlarm
+      → pending (run_of p) ≡ None
       → asked.request ≡ request.SetLimit n
       → n ≤ 255
       → HearsText p asked (saying (pump_with_link p (limited_to n)) (told.Reply reply.Status))
   limit_too_great :
       (n : ℕ)
       → asked.address ≡ 0
-      → pending (run_of p) ≡ NoAlarm
+      → pending (run_of p) ≡ None
       → asked.request ≡ request.SetLimit n
       → 255 < n
       → HearsText p asked (saying p (told.Reply reply.OutOfRange))
   resets :
       asked.address ≡ 0
-      → pending (run_of p) ≡ NoAlarm
+      → pending (run_of p) ≡ None
       → asked.request ≡ request.Pump c.Reset
       → HearsText p asked
       (saying (with_phases (pump_with_link (pump_with_core p (reset_core (core_of p))) basic_link) (fresh_phases (phase_count p)))
@@ -232,7 +231,7 @@ pub data HearsText (p : Pump) (asked : Asked) : Listened → Type 0 where
   obeys :
       (command : Command)
       → asked.address ≡ 0
-      → pending (run_of p) ≡ NoAlarm
+      → pending (run_of p) ≡ None
       → asked.request ≡ request.Pump command
       → HearsText p asked (carried_out p command)
 

@@ -15,35 +15,19 @@ const LINES: [u8; 8] = *b"DIA\rDIA\r";
 // The bytes that so many times eight are answered with, counted modulo 256 each.
 pub fn proved_bytes(times: u32, kind: u32, table: u32) -> u64 {
     let mut pump = running(table);
-    let mut bytes = first_of(kind);
+    let (mut bytes, again) = match kind {
+        0 => (INTO_SAFE_MODE, PACKET),
+        _ => (LINES, LINES),
+    };
     let mut said: u64 = 0;
-    let mut k: u32 = 0;
-    while k < times {
-        let mut j: usize = 0;
-        while j < 8 {
+    for _ in 0..times {
+        for b in bytes {
             let mut out = [0u8; 24];
-            let report = pump.byte(bytes[j], &mut out);
-            let next = report.pump;
-            pump = next;
+            let report = pump.byte(b, &mut out);
+            pump = report.pump;
             said += report.length as u64 % 256;
-            j += 1;
         }
-        bytes = then_of(kind);
-        k += 1;
+        bytes = again;
     }
     said
-}
-
-fn first_of(kind: u32) -> [u8; 8] {
-    match kind {
-        0 => INTO_SAFE_MODE,
-        _ => LINES,
-    }
-}
-
-fn then_of(kind: u32) -> [u8; 8] {
-    match kind {
-        0 => PACKET,
-        _ => LINES,
-    }
 }

@@ -7,14 +7,11 @@ use test_tables::running;
 pub fn proved_calls(calls: u32, ticks: u32, table: u32) -> u64 {
     let mut pump = running(table);
     let mut steps: u64 = 0;
-    let mut i: u32 = 0;
-    while i < calls {
+    for _ in 0..calls {
         let mut out = [0u8; 24];
         let report = pump.ticks(ticks, &mut out);
-        let next = report.pump;
-        pump = next;
+        pump = report.pump;
         steps += report.infused as u64;
-        i += 1;
     }
     steps
 }

@@ -1,5 +1,6 @@
 -- What C is handed in each case that the code tells apart. A result is first said of what the number crate answered, and then,
 -- by what that crate ensures, of its definitions.
+use Rattle.std.specs.Prelude.{Option, Some, None, MatchOption}
 use Prim.Native.Nat.{ℕ, ◌≤◌, ◌<◌}
 use mathlib.Core.Path.{◌≡◌, sym, ap, ◌∙◌}
 use mathlib.Core.Bool.{Bool, true, false}
@@ -9,30 +10,20 @@ use lib.ListN.{length}
 use borrow.Author.Tests.{le-leb, lt-leb}
 use Rattle.base.specs.Wrote.{Wrote}
 use Rattle.base.proofs.Writing.{wrote_first}
-use Rattle.decimal.specs.declared.input.Reading.{Reading}
-use Rattle.decimal.specs.declared.input.Reading.TheVariants.{Number, NoNumber}
-use Rattle.decimal.specs.declared.short.Short.{Short}
-use Rattle.decimal.specs.declared.short.Short.TheVariants.{Digits, NoDigits}
 use Rattle.test_numbers.specs.Face.{reading_as, short_as, test_as, count_of, buffer_of}
 
 -- ---- one number
-pub number : (a n : Reading) (x : ℕ) → a ≡ Number x → a ≡ n → x ≡ reading_as n
+pub number : (Set : ℕ → Type 0) (d : Option ℕ) (r : ℕ) → ((n : ℕ) → Set n → r ≡ n) → MatchOption d (r ≡ 4_294_967_296) Set → r ≡ reading_as d
 unfolding reading_as
-number a n x e f = ap reading_as (sym e ∙ f)
+number Set (Some n) r p k = p n k
+number Set None r p k = k
 
-pub no_number : (a n : Reading) → a ≡ NoNumber → a ≡ n → 4_294_967_296 ≡ reading_as n
-unfolding reading_as
-no_number a n e f = ap reading_as (sym e ∙ f)
-
-pub short : (d : Short) (n : ℕ) → d ≡ Digits n → n ≡ short_as d
+pub short : (Set : ℕ → Type 0) (d : Option ℕ) (r : ℕ) → ((n : ℕ) → Set n → r ≡ n) → MatchOption d (r ≡ 256) Set → r ≡ short_as d
 unfolding short_as
-short d n e = sym (ap short_as e)
+short Set (Some n) r p k = p n k
+short Set None r p k = k
 
-pub no_short : (d : Short) → d ≡ NoDigits → 256 ≡ short_as d
-unfolding short_as
-no_short d e = sym (ap short_as e)
-
-pub short_same : (d e : Short) (r : ℕ) → r ≡ short_as d → d ≡ e → r ≡ short_as e
+pub short_same : (d e : Option ℕ) (r : ℕ) → r ≡ short_as d → d ≡ e → r ≡ short_as e
 short_same d e r p q = p ∙ ap short_as q
 
 pub test_true : (t u : Bool) → t ≡ true → t ≡ u → 1 ≡ test_as u
@@ -43,7 +34,7 @@ pub test_false : (t u : Bool) → t ≡ false → t ≡ u → 0 ≡ test_as u
 unfolding test_as
 test_false t u e f = ap test_as (sym e ∙ f)
 
-pub ruleset as_numbers = (number, no_number, short, no_short, short_same, test_true, test_false)
+pub ruleset as_numbers = (short_same, test_true, test_false)
 
 -- ---- bytes in a buffer
 module _ (text before : List ℕ) where

@@ -1,19 +1,15 @@
 -- How C sees a result of the number crate: one number, or bytes in the buffer that it lends.
-use Rattle.std.specs.Prelude.{ℕ, Bool, List, ◌++◌, leb, length, drop, if◌then◌else◌}
-use Rattle.decimal.specs.declared.input.Reading.{Reading}
-use Rattle.decimal.specs.declared.input.Reading.TheVariants.{Number, NoNumber}
-use Rattle.decimal.specs.declared.short.Short.{Short}
-use Rattle.decimal.specs.declared.short.Short.TheVariants.{Digits, NoDigits}
+use Rattle.std.specs.Prelude.{ℕ, Bool, List, ◌++◌, leb, length, drop, if◌then◌else◌, Option, Some, None}
 
 -- a number of thousandths, or 2^32 for none
-unfoldable pub reading_as : Reading → ℕ
-reading_as (Number x) = x
-reading_as NoNumber = 4_294_967_296
+unfoldable pub reading_as : Option ℕ → ℕ
+reading_as (Some x) = x
+reading_as None = 4_294_967_296
 
 -- a short datum, or 256 for none
-unfoldable pub short_as : Short → ℕ
-short_as (Digits n) = n
-short_as NoDigits = 256
+unfoldable pub short_as : Option ℕ → ℕ
+short_as (Some n) = n
+short_as None = 256
 
 -- a test
 unfoldable pub test_as : Bool → ℕ

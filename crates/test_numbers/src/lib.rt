@@ -10,8 +10,6 @@ ghost use Rattle.decimal.specs.Short.{read_one, read_tenths, read_two};
 ghost use Rattle.decimal.specs.Writable.{is_writable};
 ghost use Rattle.test_numbers.specs.Face.{reading_as, short_as, test_as, count_of, buffer_of};
 
-use decimal::{Reading, Short};
-
 // What stands for no number: one more than the largest u32.
 const NO_NUMBER: u64 = 4_294_967_296;
 
@@ -22,10 +20,7 @@ const NO_DIGITS: u32 = 256;
 pub fn test_read(s: &[u8]) -> u64
     ensures { result ≡ reading_as (read s.now) }
 {
-    match decimal::read(s) {
-        Reading::Number(x) => x as u64,
-        Reading::NoNumber => NO_NUMBER,
-    }
+    decimal::read(s).map_or(NO_NUMBER, u64::from)
 }
 
 // `s` as one digit.
@@ -61,8 +56,7 @@ pub fn test_print(x: u32, out: &mut [u8]) -> usize
     ensures count { result ≡ count_of (print x) out.old }
     ensures buffer { out.new ≡ buffer_of (print x) out.old }
 {
-    let text = decimal::print(x);
-    hand(&text, out)
+    hand(&decimal::print(x), out)
 }
 
 // `n` as two digits, printed into `out`.
@@ -70,8 +64,7 @@ pub fn test_print_two(n: u8, out: &mut [u8]) -> usize
     ensures count { result ≡ count_of (print_two n) out.old }
     ensures buffer { out.new ≡ buffer_of (print_two n) out.old }
 {
-    let text = decimal::print_two(n);
-    hand(&text, out)
+    hand(&decimal::print_two(n), out)
 }
 
 // `n` tenths, printed into `out`.
@@ -79,18 +72,14 @@ pub fn test_print_tenths(n: u8, out: &mut [u8]) -> usize
     ensures count { result ≡ count_of (print_tenths n) out.old }
     ensures buffer { out.new ≡ buffer_of (print_tenths n) out.old }
 {
-    let text = decimal::print_tenths(n);
-    hand(&text, out)
+    hand(&decimal::print_tenths(n), out)
 }
 
 // A short datum as one number.
-fn short_as(d: Short) -> u32
+fn short_as(d: Option<u8>) -> u32
     ensures { result ≡ short_as d }
 {
-    match d {
-        Short::Digits(n) => n as u32,
-        Short::NoDigits => NO_DIGITS,
-    }
+    d.map_or(NO_DIGITS, u32::from)
 }
 
 // `text` at the start of `out`. Answers how many bytes were written: none where `out` is too short, since C can lend any buffer.
@@ -99,7 +88,8 @@ fn hand(text: &[u8], out: &mut [u8]) -> usize
     ensures buffer { out.new ≡ buffer_of text.now out.old }
 {
     if text.len() <= out.len() {
-        return base::copy(out, 0, text);
+        base::copy(out, 0, text)
+    } else {
+        0
     }
-    0
 }

@@ -8,14 +8,11 @@ use test_tables::running;
 pub fn proved_ticks(ticks: u32, table: u32) -> u64 {
     let mut pump = running(table);
     let mut steps: u64 = 0;
-    let mut i: u32 = 0;
-    while i < ticks {
+    for _ in 0..ticks {
         let mut out = [0u8; 24];
         let report = pump.tick(&mut out);
-        let next = report.pump;
-        pump = next;
+        pump = report.pump;
         steps += report.infused as u64;
-        i += 1;
     }
     steps
 }

@@ -13,22 +13,17 @@ use words::{Function, Phase};
 // A pump just started on a table.
 pub fn running(table: u32) -> Pump {
     let mut phases = [bare(Function::Stp); 41];
-    let mut n: u8 = 0;
-    while n < Pump::PHASES {
-        let at = n as usize;
-        n += 1;
-        phases[at] = phase_of(table, n);
+    for n in 0..Pump::PHASES {
+        phases[n as usize] = phase_of(table, n + 1);
     }
     let device = Device::power_up();
     let mut core = device.core;
-    let run = Run::start(1);
-    let syringe = Syringe {
+    core.run = Run::start(1);
+    core.syringe = Syringe {
         diameter: diameter_of(table),
     };
-    core.run = run;
-    core.syringe = syringe;
     Pump {
-        phases: phases,
+        phases,
         device: device.with_core(core),
     }
 }
@@ -36,35 +31,38 @@ pub fn running(table: u32) -> Pump {
 // A narrow syringe for the visits of eighteen ticks, a wide one for those of a large volume and for the ramps.
 fn diameter_of(table: u32) -> u16 {
     match table {
-        5 => 26_590,
-        8 => 26_590,
-        9 => 26_590,
+        5 | 8 | 9 => 26_590,
         _ => 10_000,
     }
 }
 
 fn phase_of(table: u32, n: u8) -> Phase {
     match table {
-        0 => continuous(n),
+        // one continuous visit; nothing else is set
+        0 => listed(&[rated(Function::Rat, 200_000, 0)], n),
         1 => large(n),
-        2 => pausing(n),
+        // the longest pause, again and again
+        2 => listed(&[bare(Function::Pas(99)), bare(Function::Jmp(1))], n),
         3 => mixed(n),
         4 => visits(n),
-        5 => voluminous(n),
+        // one visit of the largest volume
+        5 => listed(&[rated(Function::Rat, 500_000, 9_999_000)], n),
         6 => bare(Function::Stp),
-        7 => waiting(n),
+        // the trigger wait
+        7 => listed(&[bare(Function::Pas(0))], n),
         8 => ramp(n, 100),
         9 => ramp(n, 1),
-        _ => jumping(n),
+        // nothing but jumps
+        _ => listed(&[bare(Function::Jmp(1))], n),
     }
 }
 
-// One continuous visit; nothing else is set.
-fn continuous(n: u8) -> Phase {
-    match n {
-        1 => rated(Function::Rat, 200_000, 0),
-        _ => bare(Function::Stp),
-    }
+// The phase of that number: one of those listed, or, behind them, one that stops.
+fn listed(first: &[Phase], n: u8) -> Phase {
+    n.checked_sub(1)
+        .and_then(|at| first.get(at as usize))
+        .copied()
+        .unwrap_or(bare(Function::Stp))
 }
 
 // Every number above 9.999.
@@ -76,15 +74,6 @@ fn large(n: u8) -> Phase {
         function: Function::Rat,
         unit: RateUnit::Um,
         direction: Direction::Infuse,
-    }
-}
-
-// The longest pause, again and again.
-fn pausing(n: u8) -> Phase {
-    match n {
-        1 => bare(Function::Pas(99)),
-        2 => bare(Function::Jmp(1)),
-        _ => bare(Function::Stp),
     }
 }
 
@@ -128,56 +117,32 @@ fn function_of(n: u8) -> Function {
 
 // Visits of eighteen ticks in a loop.
 fn visits(n: u8) -> Phase {
-    match n {
-        1 => bare(Function::Lps),
-        2 => rated(Function::Rat, 200_000, 1_000),
-        3 => bare(Function::Lop(99)),
-        4 => bare(Function::Jmp(1)),
-        _ => bare(Function::Stp),
-    }
-}
-
-// One visit of the largest volume.
-fn voluminous(n: u8) -> Phase {
-    match n {
-        1 => rated(Function::Rat, 500_000, 9_999_000),
-        _ => bare(Function::Stp),
-    }
-}
-
-// The trigger wait.
-fn waiting(n: u8) -> Phase {
-    match n {
-        1 => bare(Function::Pas(0)),
-        _ => bare(Function::Stp),
-    }
+    let program = [
+        bare(Function::Lps),
+        rated(Function::Rat, 200_000, 1_000),
+        bare(Function::Lop(99)),
+        bare(Function::Jmp(1)),
+    ];
+    listed(&program, n)
 }
 
 // A ramp of 50 visits, each a little faster: of some 1,800 ticks at 0.1 ml, of some 18 at 0.001 ml.
 fn ramp(n: u8, volume: u32) -> Phase {
-    match n {
-        1 => rated(Function::Rat, 200_000, volume),
-        2 => bare(Function::Lps),
-        3 => rated(Function::Inc, 1_000, volume),
-        4 => bare(Function::Lop(50)),
-        5 => bare(Function::Jmp(1)),
-        _ => bare(Function::Stp),
-    }
-}
-
-// Nothing but jumps.
-fn jumping(n: u8) -> Phase {
-    match n {
-        1 => bare(Function::Jmp(1)),
-        _ => bare(Function::Stp),
-    }
+    let program = [
+        rated(Function::Rat, 200_000, volume),
+        bare(Function::Lps),
+        rated(Function::Inc, 1_000, volume),
+        bare(Function::Lop(50)),
+        bare(Function::Jmp(1)),
+    ];
+    listed(&program, n)
 }
 
 fn rated(function: Function, rate: u32, volume: u32) -> Phase {
     Phase {
-        rate: rate,
-        volume: volume,
-        function: function,
+        rate,
+        volume,
+        function,
         unit: RateUnit::Mh,
         direction: Direction::Infuse,
     }

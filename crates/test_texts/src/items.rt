@@ -1,62 +1,46 @@
 // The items of the input, one a line, and what is shown for each.
-use crate::numbers::{behind, until, whole};
+use crate::numbers::{two_words, whole};
 use crate::show;
-use decimal::Reading;
 use drive::{RateUnit, Syringe};
 use std::io;
 use std::io::Write;
 
 // Every line of `s`.
 pub fn all(s: &[u8], out: &mut impl Write) -> io::Result<()> {
-    let mut at = 0;
-    while at < s.len() {
-        let end = until(s, at, b'\n');
-        item(&s[at..end], out)?;
+    for line in s.split_inclusive(|b| *b == b'\n') {
+        item(line.strip_suffix(b"\n").unwrap_or(line), out)?;
         out.write_all(b"\n")?;
-        at = end + 1;
     }
     Ok(())
 }
 
 // One line: a letter, then what it is about.
 fn item(s: &[u8], out: &mut impl Write) -> io::Result<()> {
-    if s.len() == 0 {
-        return out.write_all(b"!");
-    }
-    let kind = s[0];
-    let rest = &s[1..];
-    match kind {
-        b'#' => out.write_all(s),
-        b'>' => show::line(rest, out),
-        b'N' => number(unspaced(rest), out),
-        b'P' => printed(whole(unspaced(rest)), out),
-        b'D' => drive_figures(unspaced(rest), out),
-        b'V' => volume(unspaced(rest), out),
-        b'R' => rate(unspaced(rest), out),
+    match s {
+        [b'#', ..] => out.write_all(s),
+        [b'>', rest @ ..] => show::line(rest, out),
+        [b'N', rest @ ..] => number(unspaced(rest), out),
+        [b'P', rest @ ..] => printed(whole(unspaced(rest)), out),
+        [b'D', rest @ ..] => drive_figures(unspaced(rest), out),
+        [b'V', rest @ ..] => volume(unspaced(rest), out),
+        [b'R', rest @ ..] => rate(unspaced(rest), out),
         _ => out.write_all(b"!"),
     }
 }
 
 // One blank in front is passed over.
 fn unspaced(s: &[u8]) -> &[u8] {
-    if s.len() == 0 {
-        return s;
-    }
-    let first = s[0];
-    if first == b' ' {
-        return &s[1..];
-    }
-    s
+    s.strip_prefix(b" ").unwrap_or(s)
 }
 
 // N text: the thousandths that it reads as, and how they are printed.
 fn number(s: &[u8], out: &mut impl Write) -> io::Result<()> {
     match decimal::read(s) {
-        Reading::Number(x) => {
+        Some(x) => {
             write!(out, "{x} ")?;
             out.write_all(&decimal::print(x))
         }
-        Reading::NoNumber => out.write_all(b"?"),
+        None => out.write_all(b"?"),
     }
 }
 
@@ -84,19 +68,16 @@ fn drive_figures(s: &[u8], out: &mut impl Write) -> io::Result<()> {
 
 // V micrometres, a blank, a volume in thousandths: the step target.
 fn volume(s: &[u8], out: &mut impl Write) -> io::Result<()> {
-    let end = until(s, 0, b' ');
-    let y = syringe(whole(&s[..end]));
-    let next = behind(s, end);
-    let target = y.step_target(whole(&s[next..]));
+    let (diameter, x) = two_words(s);
+    let target = syringe(whole(diameter)).step_target(whole(x));
     write!(out, "{target}")
 }
 
 // R micrometres, a blank, a rate in thousandths of MH: whether it is usable, and its fl an hour.
 fn rate(s: &[u8], out: &mut impl Write) -> io::Result<()> {
-    let end = until(s, 0, b' ');
-    let y = syringe(whole(&s[..end]));
-    let next = behind(s, end);
-    let x = whole(&s[next..]);
+    let (diameter, x) = two_words(s);
+    let y = syringe(whole(diameter));
+    let x = whole(x);
     if x <= decimal::MOST {
         let hourly = drive::hourly_rate(x, RateUnit::Mh);
         write!(out, "{hourly}")?;

@@ -32,6 +32,7 @@ fn read_full(input: &mut impl Read, space: &mut [u8]) -> io::Result<usize>
     ensures { IfOk result (λ n. n ≤ length space.new) }
 {
     let mut done = 0;
+    // no index loop: a read brings as much as it may
     while done < space.len() {
         let n = input.read(&mut space[done..])?;
         if n == 0 {

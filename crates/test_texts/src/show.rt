@@ -4,14 +4,13 @@ use drive::VolumeUnit;
 use line::Line;
 use std::io;
 use std::io::Write;
-use words::{Command, Reply, Said, Status, Units};
+use words::{Command, Reply, Said, Status};
 
 // > text: the bytes are sent one by one, and a return. Another address shows nothing.
 pub fn line(s: &[u8], out: &mut impl Write) -> io::Result<()> {
     let mut line = Line::empty();
-    for b in s {
-        let next = line.after_byte(*b);
-        line = next.line;
+    for &b in s {
+        line = line.after_byte(b).line;
     }
     if line.address_in() == 0 {
         reply(echo(line.command_in()), out)?;
@@ -28,11 +27,8 @@ fn reply(r: Reply, out: &mut impl Write) -> io::Result<()> {
         Said::Answer(Status::Stopped, r),
         &mut framed,
     );
-    if 2 <= n {
-        if n <= 24 {
-            let end = n - 1;
-            out.write_all(&framed[1..end])?;
-        }
+    if 2 <= n && n <= 24 {
+        out.write_all(&framed[1..n - 1])?;
     }
     Ok(())
 }
@@ -42,39 +38,17 @@ fn reply(r: Reply, out: &mut impl Write) -> io::Result<()> {
 fn echo(c: Command) -> Reply {
     match c {
         Command::Malformed => Reply::Malformed,
-        Command::Status => Reply::Status,
-        Command::AskDiameter => Reply::Status,
-        Command::SetDiameter(x) => {
-            if drive::is_diameter(x) {
-                return Reply::Number(x);
-            }
-            Reply::OutOfRange
-        }
-        Command::AskRate => Reply::Status,
-        Command::SetRate(x, units) => match units {
-            Units::Own => Reply::Number(x),
-            Units::Given(unit) => Reply::Rate(x, unit),
-        },
-        Command::AskVolume => Reply::Status,
+        Command::SetDiameter(x) if drive::is_diameter(x) => Reply::Number(x),
+        Command::SetDiameter(_) => Reply::OutOfRange,
+        Command::SetRate(x, None) => Reply::Number(x),
+        Command::SetRate(x, Some(unit)) => Reply::Rate(x, unit),
         Command::SetVolume(x) => Reply::Volume(x, VolumeUnit::Microlitre),
-        Command::AskDirection => Reply::Status,
-        Command::SetDirection(d) => Reply::Direction(d),
-        Command::Reverse => Reply::Status,
-        Command::AskPhase => Reply::Status,
-        Command::SetPhase(n) => Reply::Phase(n),
-        Command::AskFunction => Reply::Status,
-        Command::SetFunction(f) => {
-            if f.fits(41) {
-                return Reply::Function(f);
-            }
-            Reply::OutOfRange
-        }
-        Command::Run => Reply::Status,
-        Command::RunFrom(n) => Reply::Phase(n),
-        Command::Stop => Reply::Status,
+        Command::SetDirection(d) | Command::Clear(d) => Reply::Direction(d),
+        Command::SetPhase(n) | Command::RunFrom(n) => Reply::Phase(n),
+        Command::SetFunction(f) if f.fits(41) => Reply::Function(f),
+        Command::SetFunction(_) => Reply::OutOfRange,
         Command::AskDispensed => Reply::Totals(0, 0, VolumeUnit::Microlitre),
-        Command::Clear(d) => Reply::Direction(d),
-        Command::Reset => Reply::Status,
+        _ => Reply::Status,
     }
 }
 

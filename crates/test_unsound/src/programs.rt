@@ -1,12 +1,11 @@
 // The clauses on the program under way.
 use crate::show::{clause, show};
 use crate::states::{
-    THRESHOLD, begun, loops_of, phase, run_of, running, stopped, visiting, with_run,
+    THRESHOLD, begun, loops_of, mh, phase, run_of, running, stopped, visiting, with_run,
 };
 use dispense::Rate;
-use drive::RateUnit;
 use loops::{Loop, Loops};
-use program::{Mode, Pending, Run, Trap, Work};
+use program::{Mode, Run, Work};
 use std::io;
 use std::io::Write;
 use words::{Alarm, Function};
@@ -101,10 +100,10 @@ fn rates(output: &mut impl Write) -> io::Result<()> {
         b"a visit under way has a usable rate, and stands only in a RAT, INC or DEC phase",
         output,
     )?;
-    at_rate(b"282.7 MH", Rate::Current(RateUnit::Mh, 282_700), output)?;
-    at_rate(b"282.8 MH", Rate::Current(RateUnit::Mh, 282_800), output)?;
-    at_rate(b"rate 0", Rate::Current(RateUnit::Mh, 0), output)?;
-    at_rate(b"no rate", Rate::NoRate, output)?;
+    at_rate(b"282.7 MH", mh(282_700), output)?;
+    at_rate(b"282.8 MH", mh(282_800), output)?;
+    at_rate(b"rate 0", mh(0), output)?;
+    at_rate(b"no rate", None, output)?;
     visit(b"a visit in PAS", 3, 0, 0, 5, output)?;
     visit(b"a visit past the last phase", 42, 0, 0, 5, output)
 }
@@ -132,24 +131,16 @@ pub fn stops(output: &mut impl Write) -> io::Result<()> {
         b"a stopped pump has none of these three and no trap, loop or current rate",
         output,
     )?;
-    let run = Run::fresh_at(4, Mode::Stopped(Pending::Raised(Alarm::Program)));
+    let run = Run::fresh_at(4, Mode::Stopped(Some(Alarm::Program)));
     standing(b"stopped by an alarm", run, output)?;
     standing(b"stopped in a wait", run.doing(Work::Waiting), output)?;
-    standing(
-        b"stopped with a trap",
-        run.with_trap(Trap::Armed(1)),
-        output,
-    )?;
+    standing(b"stopped with a trap", run.with_trap(Some(1)), output)?;
     standing(
         b"stopped with a loop",
         run.with_loops(one_loop(begun(1, 0))),
         output,
     )?;
-    standing(
-        b"stopped with a rate",
-        run.with_rate(Rate::Current(RateUnit::Mh, 1)),
-        output,
-    )?;
+    standing(b"stopped with a rate", run.with_rate(mh(1)), output)?;
     standing(b"paused in a wait, with all of them", paused(), output)
 }
 
@@ -180,12 +171,13 @@ fn doing(name: &[u8], work: Work, n: u8, output: &mut impl Write) -> io::Result<
     show(name, running(work, n), output)
 }
 
-fn at_rate(name: &[u8], rate: Rate, output: &mut impl Write) -> io::Result<()> {
+fn at_rate(name: &[u8], rate: Option<Rate>, output: &mut impl Write) -> io::Result<()> {
     let pump = visiting(1, 10, 50, 5);
-    let device = pump.device;
-    let core = device.core;
-    let run = core.run;
-    show(name, with_run(pump, run.with_rate(rate)), output)
+    show(
+        name,
+        with_run(pump, pump.device.core.run.with_rate(rate)),
+        output,
+    )
 }
 
 // 0.019 microlitres are less than a step: such a visit has ended at its entry, and is not continuous.

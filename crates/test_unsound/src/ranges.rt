@@ -1,10 +1,9 @@
 // Every field is in the range given, and stored numbers are writable.
 use crate::show::{clause, show};
-use crate::states::{phase, run_of, stopped, with_core, with_last, with_run};
-use dispense::{Ledger, Pair, Rate};
-use drive::RateUnit;
+use crate::states::{mh, phase, run_of, stopped, with_core, with_last, with_run};
+use dispense::{Ledger, Pair};
 use line::Line;
-use program::{Core, Run, Trap, Work};
+use program::{Core, Run, Work};
 use pump::Pump;
 use std::io;
 use std::io::Write;
@@ -49,35 +48,29 @@ fn traps(output: &mut impl Write) -> io::Result<()> {
 }
 
 pub fn data(output: &mut impl Write) -> io::Result<()> {
-    jumps_and_loops(output)?;
-    pauses(output)?;
-    conditions_and_outputs(output)
-}
-
-fn jumps_and_loops(output: &mut impl Write) -> io::Result<()> {
-    datum(b"JMP 41", Function::Jmp(41), output)?;
-    datum(b"JMP 0", Function::Jmp(0), output)?;
-    datum(b"JMP 42", Function::Jmp(42), output)?;
-    datum(b"LOP 99", Function::Lop(99), output)?;
-    datum(b"LOP 0", Function::Lop(0), output)?;
-    datum(b"LOP 100", Function::Lop(100), output)
-}
-
-fn pauses(output: &mut impl Write) -> io::Result<()> {
-    datum(b"PAS 0", Function::Pas(0), output)?;
-    datum(b"PAS 100", Function::Pas(100), output)?;
-    datum(b"PAS 9.9", Function::Tenths(99), output)?;
-    datum(b"PAS 0.0", Function::Tenths(0), output)?;
-    datum(b"PAS 10.0", Function::Tenths(100), output)
-}
-
-fn conditions_and_outputs(output: &mut impl Write) -> io::Result<()> {
-    datum(b"IF 0", Function::If(0), output)?;
-    datum(b"IF 42", Function::If(42), output)?;
-    datum(b"EVN 0", Function::Evn(0), output)?;
-    datum(b"EVN 42", Function::Evn(42), output)?;
-    datum(b"OUT 1", Function::Out(1), output)?;
-    datum(b"OUT 2", Function::Out(2), output)
+    let cases: [(&[u8], Function); 17] = [
+        (b"JMP 41", Function::Jmp(41)),
+        (b"JMP 0", Function::Jmp(0)),
+        (b"JMP 42", Function::Jmp(42)),
+        (b"LOP 99", Function::Lop(99)),
+        (b"LOP 0", Function::Lop(0)),
+        (b"LOP 100", Function::Lop(100)),
+        (b"PAS 0", Function::Pas(0)),
+        (b"PAS 100", Function::Pas(100)),
+        (b"PAS 9.9", Function::Tenths(99)),
+        (b"PAS 0.0", Function::Tenths(0)),
+        (b"PAS 10.0", Function::Tenths(100)),
+        (b"IF 0", Function::If(0)),
+        (b"IF 42", Function::If(42)),
+        (b"EVN 0", Function::Evn(0)),
+        (b"EVN 42", Function::Evn(42)),
+        (b"OUT 1", Function::Out(1)),
+        (b"OUT 2", Function::Out(2)),
+    ];
+    for (name, function) in cases {
+        show(name, with_last(phase(function, 0, 0)), output)?;
+    }
+    Ok(())
 }
 
 pub fn lines(output: &mut impl Write) -> io::Result<()> {
@@ -97,10 +90,6 @@ pub fn numbers(output: &mut impl Write) -> io::Result<()> {
     stored(b"rate 99,991 in STP", 99_991, 0, output)?;
     stored(b"volume 9,999,000 in STP", 0, 9_999_000, output)?;
     stored(b"volume 10,000,000 in STP", 0, 10_000_000, output)
-}
-
-fn datum(name: &[u8], function: Function, output: &mut impl Write) -> io::Result<()> {
-    show(name, with_last(phase(function, 0, 0)), output)
 }
 
 // Numbers stored where nothing uses them.
@@ -128,10 +117,7 @@ fn chosen(name: &[u8], n: u8, output: &mut impl Write) -> io::Result<()> {
 fn totals(name: &[u8], infused: u64, withdrawn: u64, output: &mut impl Write) -> io::Result<()> {
     let mut core = core();
     let ledger = Ledger {
-        totals: Pair {
-            infused: infused,
-            withdrawn: withdrawn,
-        },
+        totals: Pair { infused, withdrawn },
     };
     core.ledger = ledger;
     show(name, with_core(stopped(), core), output)
@@ -142,12 +128,12 @@ fn at(name: &[u8], n: u8, output: &mut impl Write) -> io::Result<()> {
 }
 
 fn rate(name: &[u8], x: u32, output: &mut impl Write) -> io::Result<()> {
-    let run = run_of(Work::Entering, 1).with_rate(Rate::Current(RateUnit::Mh, x));
+    let run = run_of(Work::Entering, 1).with_rate(mh(x));
     show(name, with_run(stopped(), run), output)
 }
 
 fn trap(name: &[u8], n: u8, output: &mut impl Write) -> io::Result<()> {
-    let run = run_of(Work::Entering, 1).with_trap(Trap::Armed(n));
+    let run = run_of(Work::Entering, 1).with_trap(Some(n));
     show(name, with_run(stopped(), run), output)
 }
 
@@ -155,14 +141,13 @@ fn trap(name: &[u8], n: u8, output: &mut impl Write) -> io::Result<()> {
 fn line(name: &[u8], len: u8, c: u8, overlong: bool, output: &mut impl Write) -> io::Result<()> {
     let line = Line {
         bytes: [c; 40],
-        len: len,
-        overlong: overlong,
+        len,
+        overlong,
     };
     show(name, with_line(line), output)
 }
 
 fn with_line(line: Line) -> Pump {
     let pump = stopped();
-    let device = pump.device;
-    pump.with_device(device.with_line(line))
+    pump.with_device(pump.device.with_line(line))
 }

@@ -38,7 +38,6 @@ fn heard(pump: Pump, out: &mut [u8], output: &mut impl Write) -> io::Result<()> 
 }
 
 fn shown(report: Report, output: &mut impl Write) -> io::Result<()> {
-    let refusal = report.refusal;
-    let number = refusal.number();
+    let number = report.refusal_number();
     write!(output, " {number}")
 }

@@ -2,7 +2,7 @@
 use dispense::{Rate, Visit};
 use drive::{Direction, RateUnit};
 use loops::{Loop, Loops};
-use program::{Core, Mode, Pending, Place, Run, Trap, Work};
+use program::{Core, Mode, Place, Run, Work};
 use pump::Pump;
 use words::{Function, Phase};
 
@@ -16,17 +16,25 @@ pub fn stopped() -> Pump {
         .with_phase(2, phase(Function::Rat, 200_000, 0))
         .with_phase(3, phase(Function::Pas(2), 0, 0))
         .with_phase(4, phase(Function::Pas(0), 0, 0));
-    with_run(pump, Run::fresh_at(1, Mode::Stopped(Pending::NoAlarm)))
+    with_run(pump, Run::fresh_at(1, Mode::Stopped(None)))
 }
 
 pub fn phase(function: Function, rate: u32, volume: u32) -> Phase {
     Phase {
-        rate: rate,
-        volume: volume,
-        function: function,
+        rate,
+        volume,
+        function,
         unit: RateUnit::Mh,
         direction: Direction::Infuse,
     }
+}
+
+// So many thousandths of a millilitre an hour.
+pub fn mh(thousandths: u32) -> Option<Rate> {
+    Some(Rate {
+        unit: RateUnit::Mh,
+        thousandths,
+    })
 }
 
 // A program under way at phase `n`, at 200.0 MH.
@@ -36,23 +44,20 @@ pub fn running(work: Work, n: u8) -> Pump {
 
 pub fn run_of(work: Work, n: u8) -> Run {
     Run {
-        place: Place {
-            work: work,
-            current: n,
-        },
-        rate: Rate::Current(RateUnit::Mh, 200_000),
+        place: Place { work, current: n },
+        rate: mh(200_000),
         loops: Loops::none(),
         mode: Mode::Running,
-        trap: Trap::NoTrap,
+        trap: None,
     }
 }
 
 pub fn visiting(n: u8, given: u64, target: u64, store: u64) -> Pump {
     running(
         Work::Visiting(Visit {
-            given: given,
-            target: target,
-            store: store,
+            given,
+            target,
+            store,
         }),
         n,
     )
@@ -62,26 +67,23 @@ pub fn visiting(n: u8, given: u64, target: u64, store: u64) -> Pump {
 pub fn loops_of(count: u8, first: Loop, second: Loop, third: Loop) -> Loops {
     Loops {
         slots: [first, second, third],
-        count: count,
+        count,
     }
 }
 
 pub fn begun(phase: u8, passes: u8) -> Loop {
     Loop {
         begun: phase,
-        passes: passes,
+        passes,
     }
 }
 
 pub fn with_run(pump: Pump, run: Run) -> Pump {
-    let device = pump.device;
-    let core = device.core;
-    with_core(pump, core.with_run(run))
+    with_core(pump, pump.device.core.with_run(run))
 }
 
 pub fn with_core(pump: Pump, core: Core) -> Pump {
-    let device = pump.device;
-    pump.with_device(device.with_core(core))
+    pump.with_device(pump.device.with_core(core))
 }
 
 // Another phase 41.

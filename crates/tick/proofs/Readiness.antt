@@ -1,5 +1,6 @@
 -- What the callees of a tick ask, from a sound core and phase: see Ready in specs/Ticks.antt.
 -- Assumes nothing.
+use Rattle.std.specs.Prelude.{Some}
 use Prim.Native.Nat.{ℕ, ◌≤◌}
 use mathlib.Core.Path.{◌≡◌, sym, ap, ◌∙◌}
 use mathlib.Core.Logic.{⊎_elim}
@@ -8,13 +9,12 @@ use lib.Dec.{leb}
 use borrow.Author.Tests.{leb-true}
 use Rattle.base.proofs.Choices.{and_right}
 use Rattle.drive.specs.Syringe.{is_diameter, least_diameter, most_diameter}
-use Rattle.drive.specs.declared.rates.RateUnit.{RateUnit}
 use Rattle.drive.proofs.Bounds.{threshold_le}
 use Rattle.drive.proofs.Theorems.{usable_iff}
 use Rattle.words.specs.declared.phases.Phase.{Phase}
 use Rattle.loops.proofs.Kept.{turning}
 use Rattle.dispense.specs.Rates.{is_usable_rate}
-use Rattle.dispense.specs.declared.rates.Rate.TheVariants.{Current}
+use Rattle.dispense.specs.declared.rates.Rate.{Rate}
 use Rattle.dispense.specs.declared.visits.Visit.{Visit}
 use Rattle.program.specs.Sound.{is_sound_work}
 use Rattle.program.specs.declared.state.Core.{Core}
@@ -58,7 +58,7 @@ module _ (s : Core) (p : Phase) (ready : Ready s p) where
       record {
         small = run.rate_most;
         gives =
-            λ (x : ℕ) (unit : RateUnit) (f : s.run.rate ≡ Current unit x).
+            λ (x : Rate) (f : s.run.rate ≡ Some x).
             record {
               high = diameter_le;
               current_few = ready_current;
@@ -66,7 +66,7 @@ module _ (s : Core) (p : Phase) (ready : Ready s p) where
               works =
                   record {
                     store_below = visit.store_below;
-                    usable = ((usable_iff d x unit).0 (sym (ap (is_usable_rate d) f) ∙ visit.rate_usable)).1;
+                    usable = ((usable_iff d x.thousandths x.unit).0 (sym (ap (is_usable_rate d) f) ∙ visit.rate_usable)).1;
                     within = ⊎_elim (λ k. omega arith) (λ k. omega arith) visit.fewer_given;
                     bounded = threshold_le d diameter_le;
                   };

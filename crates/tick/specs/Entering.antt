@@ -1,5 +1,5 @@
 -- Entering a phase, function by function: what it makes of the program under way.   (01, Ticks and phases)
-use Rattle.std.specs.Prelude.{ℕ, ◌≤◌, Bool, ◌&&◌, ltb, eqb, if◌then◌else◌}
+use Rattle.std.specs.Prelude.{ℕ, ◌≤◌, Bool, ◌&&◌, ltb, eqb, if◌then◌else◌, Some, None, Option}
 use Rattle.drive.specs.Syringe.{step_target}
 use Rattle.drive.specs.declared.syringe.Syringe.{Syringe}
 use Rattle.words.specs.Functions.{pause_ticks}
@@ -9,15 +9,13 @@ use Rattle.words.specs.declared.functions.Function.TheVariants as f
 use Rattle.words.specs.declared.phases.Phase.{Phase}
 use Rattle.loops.specs.Loops as loops
 use Rattle.loops.specs.Loops.{Turning}
-use Rattle.loops.specs.declared.Began.{Began}
+use Rattle.loops.specs.declared.Loops.{Loops}
 use Rattle.loops.specs.declared.Turn.{Turn}
 use Rattle.dispense.specs.Rates.{increase, decrease, is_usable_rate}
 use Rattle.dispense.specs.declared.rates.Rate.{Rate}
-use Rattle.dispense.specs.declared.rates.Rate.TheVariants.{NoRate, Current}
 use Rattle.program.specs.Runs.{with_rate, with_loops, with_trap, stop, raise, doing, go_to, go_on, fire}
 use Rattle.program.specs.declared.state.Pins.{Pins}
 use Rattle.program.specs.declared.state.Run.{Run}
-use Rattle.program.specs.declared.state.Trap.TheVariants.{NoTrap, Armed}
 use Rattle.program.specs.declared.state.Work.TheVariants.{Visiting, Pausing, Waiting}
 
 -- time store 0, the step target from the volume; a volume above 0 with target 0 ends at entry
@@ -28,16 +26,17 @@ begin_visit r y p =
     else doing r (Visiting (record { given = 0; target = step_target y p.volume; store = 0 }))
 
 -- no rate, or one that is not usable, is alarm E
-unfoldable pub enter_rate : Run → Syringe → Phase → Rate → Run
+unfoldable pub enter_rate : Run → Syringe → Phase → Option Rate → Run
 enter_rate r y p rate = if is_usable_rate y rate then begin_visit (with_rate r rate) y p else raise r Program
 
 -- PAS: 0 ticks is the trigger wait; both drop the current rate
 unfoldable pub enter_pause : Run → ℕ → Run
-enter_pause r ticks = doing (with_rate r NoRate) (if eqb ticks 0 then Waiting else Pausing ticks)
+enter_pause r ticks = doing (with_rate r None) (if eqb ticks 0 then Waiting else Pausing ticks)
 
 -- LPS: with three still open alarm E, else one is opened
-abbrev pub begun : Run → Began → Run
-begun r b = if b.full then raise r Program else go_on (with_loops r b.loops)
+abbrev pub begun : Run → Option Loops → Run
+begun r None = raise r Program
+begun r (Some l) = go_on (with_loops r l)
 
 unfoldable pub start_loop : Run → Run
 start_loop r = begun r (loops.lps r.loops r.place.current)
@@ -59,15 +58,15 @@ jump_if r six n = if six then go_on r else go_to r n
 
 -- EVN n: if pin 4 is low, fire now, else set the trap
 unfoldable pub arm_trap : Run → Bool → ℕ → Run
-arm_trap r four n = if four then go_on (with_trap r (Armed n)) else fire r n
+arm_trap r four n = if four then go_on (with_trap r (Some n)) else fire r n
 
 -- EVR
 unfoldable pub clear_trap : Run → Run
-clear_trap r = go_on (with_trap r NoTrap)
+clear_trap r = go_on (with_trap r None)
 
 -- each function; what BEP and OUT do beside is the tick's
 abbrev pub enter_by : Run → Pins → Syringe → Phase → Function → Run
-enter_by r pins y p f.Rat = enter_rate r y p (Current p.unit p.rate)
+enter_by r pins y p f.Rat = enter_rate r y p (Some (record { unit = p.unit; thousandths = p.rate }))
 enter_by r pins y p f.Inc = enter_rate r y p (increase r.rate p.rate)
 enter_by r pins y p f.Dec = enter_rate r y p (decrease r.rate p.rate)
 enter_by r pins y p f.Stp = stop r

@@ -1,5 +1,5 @@
 -- Working an entered phase: a tick of a visit, a tick of a timed pause.   (01, Ticks and phases, RAT and PAS; Volumes)
-use Rattle.std.specs.Prelude.{ℕ, ◌+◌, ◌-◌, ◌*◌, ◌≤◌, ◌≡◌, leb, if◌then◌else◌}
+use Rattle.std.specs.Prelude.{ℕ, ◌+◌, ◌-◌, ◌*◌, ◌≤◌, ◌≡◌, leb, if◌then◌else◌, Option, Some, None}
 use Rattle.drive.specs.Rates.{hourly_rate, most_rate}
 use Rattle.drive.specs.Syringe.{most_diameter, step_volume, step_threshold}
 use Rattle.drive.specs.declared.directions.Direction.{Direction}
@@ -10,7 +10,6 @@ use Rattle.dispense.specs.Rates.{thousandths}
 use Rattle.dispense.specs.Visits.{Working, steps_of, worked_of, is_done}
 use Rattle.dispense.specs.declared.ledgers.Ledger.{Ledger}
 use Rattle.dispense.specs.declared.rates.Rate.{Rate}
-use Rattle.dispense.specs.declared.rates.Rate.TheVariants.{NoRate, Current}
 use Rattle.dispense.specs.declared.visits.Visit.{Visit}
 use Rattle.program.specs.Runs.{raise, doing, go_on}
 use Rattle.program.specs.declared.state.Run.{Run}
@@ -38,9 +37,9 @@ give_steps r l y way v hourly =
     else record { run = raise r Program; ledger = l; steps = 0 }
 
 -- at the current rate; a sound visit has one
-abbrev pub work_at : Run → Ledger → Syringe → Direction → Visit → Rate → Given
-work_at r l y way v NoRate = record { run = r; ledger = l; steps = 0 }
-work_at r l y way v (Current unit x) = give_steps r l y way v (hourly_rate x unit)
+abbrev pub work_at : Run → Ledger → Syringe → Direction → Visit → Option Rate → Given
+work_at r l y way v None = record { run = r; ledger = l; steps = 0 }
+work_at r l y way v (Some x) = give_steps r l y way v (hourly_rate x.thousandths x.unit)
 
 unfoldable pub work_visit : Run → Ledger → Syringe → Direction → Visit → Given
 work_visit r l y way v = work_at r l y way v r.rate
@@ -58,4 +57,4 @@ pub record Giving (r : Run) (l : Ledger) (y : Syringe) (way : Direction) (v : Vi
 
 pub record AtRate (r : Run) (l : Ledger) (y : Syringe) (way : Direction) (v : Visit) : Type 0 where
   pub small : thousandths r.rate ≤ most_rate
-  pub gives : (x : ℕ) (unit : _) → r.rate ≡ Current unit x → Giving r l y way v (hourly_rate x unit)
+  pub gives : (x : Rate) → r.rate ≡ Some x → Giving r l y way v (hourly_rate x.thousandths x.unit)

@@ -7,7 +7,7 @@ ghost use Rattle.loops.specs.Loops.{Turning};
 
 use dispense::{Rate, Visit};
 use drive::Syringe;
-use program::{Pins, Run, Trap, Work};
+use program::{Pins, Run, Work};
 use words::{Alarm, Function, Phase};
 
 // RAT, INC and DEC meet in one call, so that the compiler takes it in here and keeps the run in registers.
@@ -15,20 +15,20 @@ pub fn enter(run: Run, pins: Pins, syringe: Syringe, here: Phase) -> Run
     requires { Enterable run }
     ensures { result ≡ enter run pins syringe here }
 {
-    let function = here.function;
-    let unit = here.unit;
-    let current = run.rate;
-    let rate = match function {
-        Function::Rat => Rate::Current(unit, here.rate),
-        Function::Inc => current.increase(here.rate),
-        Function::Dec => current.decrease(here.rate),
+    let rate = match here.function {
+        Function::Rat => Some(Rate {
+            unit: here.unit,
+            thousandths: here.rate,
+        }),
+        Function::Inc => run.rate.and_then(|rate| rate.increase(here.rate)),
+        Function::Dec => run.rate.map(|rate| rate.decrease(here.rate)),
         Function::Stp => return run.stop(),
         Function::Jmp(n) => return run.go_to(n),
         Function::Lop(n) => return pass_loop(run, n),
         Function::Lps => return start_loop(run),
         Function::Lpe => return end_loop(run),
-        Function::Pas(_) => return enter_pause(run, function.pause_ticks()),
-        Function::Tenths(_) => return enter_pause(run, function.pause_ticks()),
+        Function::Pas(_) => return enter_pause(run, here.function.pause_ticks()),
+        Function::Tenths(_) => return enter_pause(run, here.function.pause_ticks()),
         Function::If(n) => return jump_if(run, pins.six, n),
         Function::Evn(n) => return arm_trap(run, pins.four, n),
         Function::Evr => return clear_trap(run),
@@ -39,11 +39,11 @@ pub fn enter(run: Run, pins: Pins, syringe: Syringe, here: Phase) -> Run
 }
 
 // RAT, INC and DEC, with the rate that is to be the current one.
-fn enter_rate(run: Run, syringe: Syringe, here: Phase, rate: Rate) -> Run
+fn enter_rate(run: Run, syringe: Syringe, here: Phase, rate: Option<Rate>) -> Run
     requires { run.place.current ≤ 100 }
     ensures { result ≡ enter_rate run syringe here rate }
 {
-    if rate.is_usable(syringe) {
+    if rate.is_some_and(|rate| rate.is_usable(syringe)) {
         return begin_visit(run.with_rate(rate), syringe, here);
     }
     run.raise(Alarm::Program)
@@ -60,7 +60,7 @@ fn begin_visit(run: Run, syringe: Syringe, here: Phase) -> Run
     }
     let visit = Visit {
         given: 0,
-        target: target,
+        target,
         store: 0,
     };
     run.doing(Work::Visiting(visit))
@@ -70,7 +70,7 @@ fn begin_visit(run: Run, syringe: Syringe, here: Phase) -> Run
 fn enter_pause(run: Run, ticks: u32) -> Run
     ensures { result ≡ enter_pause run ticks }
 {
-    let unrated = run.with_rate(Rate::NoRate);
+    let unrated = run.with_rate(None);
     if ticks == 0 {
         return unrated.doing(Work::Waiting);
     }
@@ -82,11 +82,10 @@ fn start_loop(run: Run) -> Run
     requires { run.place.current ≤ 100 }
     ensures { result ≡ start_loop run }
 {
-    let began = run.loops.lps(run.place.current);
-    if began.full {
+    let Some(loops) = run.loops.lps(run.place.current) else {
         return run.raise(Alarm::Program);
-    }
-    run.with_loops(began.loops).go_on()
+    };
+    run.with_loops(loops).go_on()
 }
 
 // LOP n
@@ -124,7 +123,7 @@ fn arm_trap(run: Run, four: bool, n: u8) -> Run
     ensures { result ≡ arm_trap run four n }
 {
     if four {
-        return run.with_trap(Trap::Armed(n)).go_on();
+        return run.with_trap(Some(n)).go_on();
     }
     run.fire(n)
 }
@@ -134,5 +133,5 @@ fn clear_trap(run: Run) -> Run
     requires { run.place.current ≤ 100 }
     ensures { result ≡ clear_trap run }
 {
-    run.with_trap(Trap::NoTrap).go_on()
+    run.with_trap(None).go_on()
 }

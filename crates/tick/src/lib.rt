@@ -37,15 +37,12 @@ pub fn tick(core: Core, here: Phase) -> Moved
     if !core.run.is_operating() {
         return silent(core);
     }
-    let place = core.run.place;
-    let work = place.work;
-    let direction = here.direction;
-    match work {
+    match core.run.place.work {
         Work::Entering => entered(core, here),
         Work::Visiting(visit) => worked(
             core,
-            direction,
-            work_visit(core.run, core.ledger, core.syringe, direction, visit),
+            here.direction,
+            work_visit(core, here.direction, visit),
         ),
         Work::Pausing(left) => silent(core.with_run(work_pause(core.run, left))),
         Work::Waiting => silent(core),
@@ -57,16 +54,15 @@ fn entered(mut core: Core, here: Phase) -> Moved
     requires { Enterable core.run }
     ensures { result ≡ entered core here }
 {
-    let function = here.function;
     let after = enter(core.run, core.pins, core.syringe, here);
-    let output = output_after(function, core.output);
+    let output = output_after(here.function, core.output);
     core.run = after;
     core.output = output;
     Moved {
-        core: core,
+        core,
         infused: 0,
         withdrawn: 0,
-        beep: function.is_beep(),
+        beep: here.function.is_beep(),
     }
 }
 
@@ -80,13 +76,13 @@ fn worked(mut core: Core, direction: Direction, given: Given) -> Moved
     core.ledger = ledger;
     match direction {
         Direction::Infuse => Moved {
-            core: core,
+            core,
             infused: given.steps,
             withdrawn: 0,
             beep: false,
         },
         Direction::Withdraw => Moved {
-            core: core,
+            core,
             infused: 0,
             withdrawn: given.steps,
             beep: false,
@@ -99,7 +95,7 @@ pub fn silent(core: Core) -> Moved
     ensures { result ≡ silent core }
 {
     Moved {
-        core: core,
+        core,
         infused: 0,
         withdrawn: 0,
         beep: false,

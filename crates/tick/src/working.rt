@@ -2,9 +2,9 @@
 ghost use Rattle.std.specs.Prelude.{◌≡◌, ◌≤◌};
 ghost use Rattle.tick.specs.Working.{Giving, AtRate, after_visit, give_steps, work_visit, work_pause};
 
-use dispense::{Ledger, Rate, Visit};
-use drive::{Direction, Syringe};
-use program::{Run, Work};
+use dispense::{Ledger, Visit};
+use drive::Direction;
+use program::{Core, Run, Work};
 use words::Alarm;
 
 // What a working tick of a visit makes of the program and the ledger, and the steps that it gives.
@@ -16,58 +16,38 @@ pub struct Given {
 }
 
 // A working tick of a visit, at the current rate; a sound visit has one.
-pub fn work_visit(
-    run: Run,
-    ledger: Ledger,
-    syringe: Syringe,
-    direction: Direction,
-    visit: Visit,
-) -> Given
-    requires { AtRate run ledger syringe direction visit }
-    ensures { result ≡ work_visit run ledger syringe direction visit }
+pub fn work_visit(core: Core, direction: Direction, visit: Visit) -> Given
+    requires { AtRate core.run core.ledger core.syringe direction visit }
+    ensures { result ≡ work_visit core.run core.ledger core.syringe direction visit }
 {
-    let rate = run.rate;
-    match rate {
-        Rate::NoRate => Given {
-            run: run,
-            ledger: ledger,
+    let Some(rate) = core.run.rate else {
+        return Given {
+            run: core.run,
+            ledger: core.ledger,
             steps: 0,
-        },
-        Rate::Current(unit, x) => give_steps(
-            run,
-            ledger,
-            syringe,
-            direction,
-            visit,
-            drive::hourly_rate(x, unit),
-        ),
-    }
+        };
+    };
+    let hourly = drive::hourly_rate(rate.thousandths, rate.unit);
+    give_steps(core, direction, visit, hourly)
 }
 
 // The steps are worked out once. Where their volume would bring the total past its limit none of them is given: alarm E.
-fn give_steps(
-    run: Run,
-    ledger: Ledger,
-    syringe: Syringe,
-    direction: Direction,
-    visit: Visit,
-    hourly: u64,
-) -> Given
-    requires { Giving run ledger syringe direction visit hourly }
-    ensures { result ≡ give_steps run ledger syringe direction visit hourly }
+fn give_steps(core: Core, direction: Direction, visit: Visit, hourly: u64) -> Given
+    requires { Giving core.run core.ledger core.syringe direction visit hourly }
+    ensures { result ≡ give_steps core.run core.ledger core.syringe direction visit hourly }
 {
-    let worked = visit.work(hourly, syringe.step_threshold());
-    let dose = worked.steps * syringe.step_volume();
-    if ledger.total_of(direction) + dose <= dispense::MOST_TOTAL {
+    let worked = visit.work(hourly, core.syringe.step_threshold());
+    let dose = worked.steps * core.syringe.step_volume();
+    if core.ledger.total_of(direction) + dose <= dispense::MOST_TOTAL {
         return Given {
-            run: after_visit(run, worked.visit),
-            ledger: ledger.book(direction, dose),
+            run: after_visit(core.run, worked.visit),
+            ledger: core.ledger.book(direction, dose),
             steps: worked.steps as u8,
         };
     }
     Given {
-        run: run.raise(Alarm::Program),
-        ledger: ledger,
+        run: core.run.raise(Alarm::Program),
+        ledger: core.ledger,
         steps: 0,
     }
 }

@@ -1,19 +1,19 @@
 -- The quick tests of a function's datum, and of a phase, say no more than the rule; the tests of a phase.
 -- Assumes nothing.
 use Rattle.std.specs.Prelude.{if◌then◌else◌}
-use Prim.Native.Nat.{ℕ, ◌*◌, ◌/◌, ◌≤◌}
+use Prim.Native.Nat.{ℕ, ◌/◌, ◌≤◌}
 use mathlib.Core.Path.{◌≡◌, refl, sym, ◌∙◌}
 use mathlib.Core.Bool.{Bool, true, false, ◌&&◌}
 use native.Mathlib.Omega.{arith}
 use lib.Dec.{leb, eqb}
 use lib.Bits.{bit_and, bit_or, or_comm, or_add_and, and_le_r}
-use borrow.Author.Tests.{eq-eqb, ne_eqb, eqb-true}
+use borrow.Author.Tests.{eqb-true}
 use Rattle.base.proofs.Choices.{and_left, and_right, false_true}
 use Rattle.decimal.specs.Writable.{is_writable}
 use Rattle.decimal.proofs.Grid.{writable_ones}
 use Rattle.words.specs.Phases.{is_sound_phase}
 use Rattle.words.specs.declared.phases.Phase.{Phase}
-use Rattle.words.specs.Functions.{number, datum, is_out, takes_phase, takes_count, takes_datum, fits, pause_ticks}
+use Rattle.words.specs.Functions.{number, datum, is_out, takes_datum, fits}
 use Rattle.words.specs.declared.functions.Function.{Function}
 use Rattle.words.specs.declared.functions.Function.TheVariants as f
 
@@ -54,41 +54,6 @@ looked_fits phases (f.Out n) e = false_true e
 
 pub quick_fits : (phases : ℕ) (g : Function) (n : ℕ) → n ≡ looked g → in_all phases n ≡ true → true ≡ fits phases g
 quick_fits phases g n a e = looked_fits phases g (rw (a) at e)
-
--- ---- the tests of a datum in the code's order, asked of the number, the kind and the datum found
-module _ (phases : ℕ) (g : Function) (n d : ℕ) (a : n ≡ number g) (b : d ≡ datum g) (t t' : Bool) (p : t ≡ takes_phase g) where
-  pub a_phase : t ≡ true → (leb 1 d && leb d phases) ≡ fits phases g
-  a_phase e = rw (b) (simp (sym p ∙ e))
-
-  module _ (e : t ≡ false) (q : t' ≡ takes_count g) where
-    pub a_count : t' ≡ true → (leb 1 d && leb d 99) ≡ fits phases g
-    a_count h = rw (b) (simp (sym p ∙ e, sym q ∙ h))
-
-    module _ (e' : t' ≡ false) where
-      pub seconds : n ≡ 8 → leb d 99 ≡ fits phases g
-      seconds h = rw (b) (simp (sym p ∙ e, sym q ∙ e', eq-eqb _ _ (rw (a) at h)))
-
-      module _ (e'' : n ≡ 8 → ⊥) where
-        pub a_level : n ≡ 14 → leb d 1 ≡ fits phases g
-        a_level h = rw (b) (simp (sym p ∙ e, sym q ∙ e', ne_eqb _ _ (rw (a) at e''), eq-eqb _ _ (rw (a) at h)))
-
-        pub no_datum : (n ≡ 14 → ⊥) → true ≡ fits phases g
-        no_datum h = simp (sym p ∙ e, sym q ∙ e', ne_eqb _ _ (rw (a) at e''), ne_eqb _ _ (rw (a) at h))
-
-pub ruleset datum_tests = (a_phase, a_count, seconds, a_level, no_datum)
-
--- ---- the ticks of a pause likewise
-module _ (g : Function) (n d : ℕ) (a : n ≡ number g) (b : d ≡ datum g) where
-  pub by_seconds : n ≡ 8 → d * 1000 ≡ pause_ticks g
-  by_seconds e = rw (b) (simp (eq-eqb _ _ (rw (a) at e)))
-
-  pub by_tenths : (n ≡ 8 → ⊥) → n ≡ 9 → d * 100 ≡ pause_ticks g
-  by_tenths o e = rw (b) (simp (ne_eqb _ _ (rw (a) at o), eq-eqb _ _ (rw (a) at e)))
-
-  pub no_pause : (n ≡ 8 → ⊥) → (n ≡ 9 → ⊥) → 0 ≡ pause_ticks g
-  no_pause o e = simp (ne_eqb _ _ (rw (a) at o), ne_eqb _ _ (rw (a) at e))
-
-pub ruleset pauses = (by_seconds, by_tenths, no_pause)
 
 -- ---- a plain phase: where nothing is left of its numbers and of its function's number, it is sound
 within_or : (a b : ℕ) → a ≤ bit_or a b

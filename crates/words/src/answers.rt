@@ -1,9 +1,12 @@
 // What the pump answers, as values: a status, a reply, and the two together. Numbers are in thousandths.
+ghost use Rattle.std.specs.Prelude.{◌≡◌};
+ghost use Rattle.words.specs.Answers.{declined};
+
 use crate::functions::Function;
 use drive::{Direction, RateUnit, VolumeUnit};
 
 // What the pump is doing.
-#[derive(Clone, Copy)]
+#[derive(Clone, Copy, PartialEq, Eq, Debug)]
 pub enum Status {
     Stopped,
     Paused,
@@ -14,7 +17,7 @@ pub enum Status {
 }
 
 // R: the pump was switched on. E: the program met something that it cannot do. T: the time limit of Safe mode passed.
-#[derive(Clone, Copy)]
+#[derive(Clone, Copy, PartialEq, Eq, Debug)]
 pub enum Alarm {
     PowerUp,
     Program,
@@ -22,7 +25,7 @@ pub enum Alarm {
 }
 
 // What an answer says beside the status.
-#[derive(Clone, Copy)]
+#[derive(Clone, Copy, PartialEq, Eq, Debug)]
 pub enum Reply {
     // the status and nothing else
     Status,
@@ -46,8 +49,28 @@ pub enum Reply {
     Totals(u32, u32, VolumeUnit),
 }
 
-// An answer as a value; it becomes bytes only where it is framed. An alarm stands in the status's place.
-#[derive(Clone, Copy)]
+// Why a command is declined: it does not apply, or what it brings is out of range.
+#[derive(Clone, Copy, PartialEq, Eq, Debug)]
+pub enum Declined {
+    NotApplicable,
+    OutOfRange,
+}
+
+// What a declined command is answered.
+impl From<Declined> for Reply {
+    ghost from_gives = { λ d r. r ≡ declined d };
+
+    fn from(why: Declined) -> Reply {
+        match why {
+            Declined::NotApplicable => Reply::NotApplicable,
+            Declined::OutOfRange => Reply::OutOfRange,
+        }
+    }
+}
+
+// An answer as a value; it becomes bytes only where it is framed. An alarm stands in the status's place. An Option would add a
+// `Some` wherever one is made, and take no test away.
+#[derive(Clone, Copy, PartialEq, Eq, Debug)]
 pub enum Said {
     Nothing,
     Alarm(Alarm),

@@ -2,14 +2,7 @@
 use crate::functions::Function;
 use drive::{Direction, RateUnit};
 
-// The units that a rate was sent with.
-#[derive(Clone, Copy)]
-pub enum Units {
-    Own,
-    Given(RateUnit),
-}
-
-#[derive(Clone, Copy)]
+#[derive(Clone, Copy, PartialEq, Eq, Debug)]
 pub enum Command {
     // an over-long line, an unknown name or a malformed argument
     Malformed,
@@ -18,7 +11,8 @@ pub enum Command {
     AskDiameter,
     SetDiameter(u32),
     AskRate,
-    SetRate(u32, Units),
+    // without units the phase's own stay
+    SetRate(u32, Option<RateUnit>),
     AskVolume,
     SetVolume(u32),
     AskDirection,
@@ -37,7 +31,7 @@ pub enum Command {
 }
 
 // What a text asks for: SAF is asked of the link that it came by, every other command of the pump.
-#[derive(Clone, Copy)]
+#[derive(Clone, Copy, PartialEq, Eq, Debug)]
 pub enum Request {
     AskLimit,
     // seconds
@@ -46,7 +40,7 @@ pub enum Request {
 }
 
 // A text that was heard: the address that it bears, and what it asks for.
-#[derive(Clone, Copy)]
+#[derive(Clone, Copy, PartialEq, Eq, Debug)]
 pub struct Asked {
     pub address: u8,
     pub request: Request,

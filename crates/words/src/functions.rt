@@ -1,10 +1,10 @@
 // What a phase does. A case's datum may be any u8, also one that no pump can hold: `fits` says which it may.
-ghost use Rattle.std.specs.Prelude.{◌≡◌, length, take, if◌then◌else◌};
+ghost use Rattle.std.specs.Prelude.{◌≡◌, if◌then◌else◌};
 ghost use Rattle.words.specs.Functions.{number, datum, is_flow, is_ramp, is_rate_phase, is_wait, is_beep, is_out, takes_phase, takes_count};
 ghost use Rattle.words.specs.Functions.{takes_datum, fits, pause_ticks};
 ghost use Rattle.words.specs.Spelling.{function_name};
 
-#[derive(Clone, Copy)]
+#[derive(Clone, Copy, PartialEq, Eq, Debug)]
 pub enum Function {
     Rat,
     Inc,
@@ -31,7 +31,7 @@ pub enum Function {
 }
 
 impl Function {
-    // Its place in the list; every question about a function is asked by it.
+    // Its place in the list. A case that holds a datum has no number by `as`.
     pub fn number(self) -> u8
         ensures { result ≡ number self }
     {
@@ -59,21 +59,14 @@ impl Function {
         ensures { result ≡ datum self }
     {
         match self {
-            Function::Rat => 0,
-            Function::Inc => 0,
-            Function::Dec => 0,
-            Function::Stp => 0,
-            Function::Jmp(n) => n,
-            Function::Lop(n) => n,
-            Function::Lps => 0,
-            Function::Lpe => 0,
-            Function::Pas(n) => n,
-            Function::Tenths(n) => n,
-            Function::If(n) => n,
-            Function::Evn(n) => n,
-            Function::Evr => 0,
-            Function::Bep => 0,
-            Function::Out(n) => n,
+            Function::Jmp(n)
+            | Function::Lop(n)
+            | Function::Pas(n)
+            | Function::Tenths(n)
+            | Function::If(n)
+            | Function::Evn(n)
+            | Function::Out(n) => n,
+            _ => 0,
         }
     }
 
@@ -81,93 +74,89 @@ impl Function {
     pub fn is_flow(self) -> bool
         ensures { result ≡ is_flow self }
     {
-        self.number() == 0
+        matches!(self, Function::Rat)
     }
 
     // INC and DEC
     pub fn is_ramp(self) -> bool
         ensures { result ≡ is_ramp self }
     {
-        let n = self.number();
-        (1 <= n) & (n <= 2)
+        matches!(self, Function::Inc | Function::Dec)
     }
 
     // RAT, INC and DEC: only these pump, and only these have a rate and a volume to ask for.
     pub fn is_rate_phase(self) -> bool
         ensures { result ≡ is_rate_phase self }
     {
-        self.number() <= 2
+        matches!(self, Function::Rat | Function::Inc | Function::Dec)
     }
 
     // PAS 0
     pub fn is_wait(self) -> bool
         ensures { result ≡ is_wait self }
     {
-        (self.number() == 8) & (self.datum() == 0)
+        matches!(self, Function::Pas(0))
     }
 
     // BEP
     pub fn is_beep(self) -> bool
         ensures { result ≡ is_beep self }
     {
-        self.number() == 13
+        matches!(self, Function::Bep)
     }
 
     // OUT
     pub fn is_out(self) -> bool
         ensures { result ≡ is_out self }
     {
-        self.number() == 14
+        matches!(self, Function::Out(_))
     }
 
     // JMP, IF and EVN
     pub fn takes_phase(self) -> bool
         ensures { result ≡ takes_phase self }
     {
-        let n = self.number();
-        (n == 4) | (n == 10) | (n == 11)
+        matches!(self, Function::Jmp(_) | Function::If(_) | Function::Evn(_))
     }
 
     // LOP, and PAS in tenths
     pub fn takes_count(self) -> bool
         ensures { result ≡ takes_count self }
     {
-        let n = self.number();
-        (n == 5) | (n == 9)
+        matches!(self, Function::Lop(_) | Function::Tenths(_))
     }
 
-    // The letters of its name, for whoever reads it or prints it; behind IF a blank. The names stand in the order of the numbers.
-    pub fn letters(self) -> [u8; 3]
-        ensures { take (length (function_name self)) result ≡ function_name self }
+    // The letters of its name, for whoever reads it or prints it.
+    pub fn name(self) -> &'static [u8]
+        ensures { result.now ≡ function_name self }
     {
-        let names = *b"RATINCDECSTPJMPLOPLPSLPEPASPASIF EVNEVRBEPOUT";
-        let at = self.number() as usize * 3;
-        [names[at], names[at + 1], names[at + 2]]
-    }
-
-    // How many letters its name has: IF two, every other three.
-    pub fn name_length(self) -> usize
-        ensures { result ≡ length (function_name self) }
-    {
-        if self.number() == 10 {
-            return 2;
+        match self {
+            Function::Rat => b"RAT",
+            Function::Inc => b"INC",
+            Function::Dec => b"DEC",
+            Function::Stp => b"STP",
+            Function::Jmp(_) => b"JMP",
+            Function::Lop(_) => b"LOP",
+            Function::Lps => b"LPS",
+            Function::Lpe => b"LPE",
+            Function::Pas(_) | Function::Tenths(_) => b"PAS",
+            Function::If(_) => b"IF",
+            Function::Evn(_) => b"EVN",
+            Function::Evr => b"EVR",
+            Function::Bep => b"BEP",
+            Function::Out(_) => b"OUT",
         }
-        3
     }
 
     // How many ticks a timed pause takes, after the one that enters it; 0 for whatever is none.
     pub fn pause_ticks(self) -> u32
         ensures { result ≡ pause_ticks self }
     {
-        let n = self.number();
-        let datum = self.datum() as u32;
-        if n == 8 {
-            return datum * 1000;
+        match self {
+            Function::Pas(seconds) => seconds as u32 * 1000,
+            Function::Tenths(tenths) => tenths as u32 * 100,
+            _ => 0,
         }
-        if n == 9 {
-            return datum * 100;
-        }
-        0
     }
 
     // Whether a pump of `phases` phases may hold this function with its datum. Every call on a pump asks this of all its phases,
@@ -186,21 +175,13 @@ impl Function {
     fn fits_its_rule(self, phases: u8) -> bool
         ensures { result ≡ fits phases self }
     {
-        let n = self.number();
-        let datum = self.datum();
-        if self.takes_phase() {
-            return (1 <= datum) & (datum <= phases);
+        match self {
+            Function::Jmp(n) | Function::If(n) | Function::Evn(n) => (1 <= n) & (n <= phases),
+            Function::Lop(n) | Function::Tenths(n) => (1 <= n) & (n <= 99),
+            Function::Pas(n) => n <= 99,
+            Function::Out(n) => n <= 1,
+            _ => true,
         }
-        if self.takes_count() {
-            return (1 <= datum) & (datum <= 99);
-        }
-        if n == 8 {
-            return datum <= 99;
-        }
-        if n == 14 {
-            return datum <= 1;
-        }
-        true
     }
 
     // A number that, from 1 to the last phase, tells at once that the datum fits: the datum, 1 where there is none, 0 where it must be
@@ -209,21 +190,14 @@ impl Function {
         ensures { result ≡ (if is_out self then 0 else if takes_datum self then datum self else 1) }
     {
         match self {
-            Function::Rat => 1,
-            Function::Inc => 1,
-            Function::Dec => 1,
-            Function::Stp => 1,
-            Function::Jmp(n) => n,
-            Function::Lop(n) => n,
-            Function::Lps => 1,
-            Function::Lpe => 1,
-            Function::Pas(n) => n,
-            Function::Tenths(n) => n,
-            Function::If(n) => n,
-            Function::Evn(n) => n,
-            Function::Evr => 1,
-            Function::Bep => 1,
+            Function::Jmp(n)
+            | Function::Lop(n)
+            | Function::Pas(n)
+            | Function::Tenths(n)
+            | Function::If(n)
+            | Function::Evn(n) => n,
             Function::Out(_) => 0,
+            _ => 1,
         }
     }
 }

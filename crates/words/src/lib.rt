@@ -4,7 +4,7 @@
 //   functions   the fifteen functions, each with its number and its datum, and every question about one
 //   phases      the phase record: sound, at power-up
 //   commands    the commands with their data, and what a text asks for: of the pump, or of the link that it came by
-//   answers     the statuses, the alarms, the replies, and what is said
+//   answers     the statuses, the alarms, the replies, why a command is declined, and what is said
 #![tactic(auto)]
 
 mod answers;
@@ -12,7 +12,7 @@ mod commands;
 mod functions;
 mod phases;
 
-pub use answers::{Alarm, Reply, Said, Status};
-pub use commands::{Asked, Command, Request, Units};
+pub use answers::{Alarm, Declined, Reply, Said, Status};
+pub use commands::{Asked, Command, Request};
 pub use functions::Function;
 pub use phases::Phase;

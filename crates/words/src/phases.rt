@@ -6,7 +6,7 @@ use crate::functions::Function;
 use drive::{Direction, RateUnit};
 
 // Rate and volume in thousandths, the rate of its own unit, the volume of the unit that the diameter gives.
-#[derive(Clone, Copy)]
+#[derive(Clone, Copy, PartialEq, Eq, Debug)]
 pub struct Phase {
     pub rate: u32,
     pub volume: u32,
@@ -33,7 +33,7 @@ impl Phase {
         Phase {
             rate: 0,
             volume: 0,
-            function: function,
+            function,
             unit: RateUnit::Mh,
             direction: Direction::Infuse,
         }
@@ -48,8 +48,7 @@ impl Phase {
         }
         if decimal::is_writable(self.rate) {
             if decimal::is_writable(self.volume) {
-                let function = self.function;
-                return function.fits(phases);
+                return self.function.fits(phases);
             }
         }
         false
@@ -61,9 +60,8 @@ impl Phase {
     fn is_plain(self) -> bool
         ensures { result ≡ true → (phases : ℕ) → is_sound_phase phases self ≡ true }
     {
-        let function = self.function;
         let beyond = (self.rate | self.volume) / 8192;
-        let other = function.number() as u32 & 252;
+        let other = self.function.number() as u32 & 252;
         beyond | other == 0
     }
 }

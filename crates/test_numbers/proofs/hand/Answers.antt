@@ -5,5 +5,5 @@ use Rattle.test_numbers.proofs.hand.Goals as goal
 pub returns-then-text-out : goal.returns-then-text-out
 returns-then-text-out c = search in_buffers
 
-pub returns : goal.returns
-returns c = search in_buffers
+pub returns-else-text-out : goal.returns-else-text-out
+returns-else-text-out c = search in_buffers

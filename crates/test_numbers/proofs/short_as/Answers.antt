@@ -1,9 +1,7 @@
--- `short_as` meets its contract: each arm answers what `short_as` gives for its variant.
-use Rattle.test_numbers.proofs.Handed.{as_numbers}
+-- `short_as` meets its contract: the datum, or what stands for none.
+use Rattle.std.proofs.Common.{rules}
+use Rattle.test_numbers.proofs.Handed.{short}
 use Rattle.test_numbers.proofs.short_as.Goals as goal
 
-pub returns-in-Digits : goal.returns-in-Digits
-returns-in-Digits c = search as_numbers
-
-pub returns-in-NoDigits : goal.returns-in-NoDigits
-returns-in-NoDigits c = search as_numbers
+pub returns : goal.returns
+returns c = short _ _ _ (λ n k. search rules) c.map_or.ensures

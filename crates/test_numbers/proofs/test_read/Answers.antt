@@ -1,9 +1,9 @@
--- `test_read` meets its contract: each arm answers what `reading_as` gives for its variant, and `read` ensures which that is.
-use Rattle.test_numbers.proofs.Handed.{as_numbers}
+-- `test_read` meets its contract: the number, or what stands for none.
+use Rattle.std.proofs.Common.{rules}
+use mathlib.Core.Path.{ap, ◌∙◌}
+use Rattle.test_numbers.specs.Face.{reading_as}
+use Rattle.test_numbers.proofs.Handed.{number}
 use Rattle.test_numbers.proofs.test_read.Goals as goal
 
-pub returns-in-Number : goal.returns-in-Number
-returns-in-Number c = search as_numbers
-
-pub returns-in-NoNumber : goal.returns-in-NoNumber
-returns-in-NoNumber c = search as_numbers
+pub returns : goal.returns
+returns c = number _ _ _ (λ n k. search rules) c.map_or.ensures ∙ ap reading_as c.read.ensures

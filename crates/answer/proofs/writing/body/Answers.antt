@@ -1,22 +1,11 @@
--- `answer::writing::body` meets its contract: a letter and what stands behind it are two runs; an alarm is one.
+-- `answer::writing::body` meets its contract: behind the letter stand at most 14 bytes.
 -- Assumes nothing.
+use mathlib.Core.Path.{ap, ◌∙◌}
 use native.Mathlib.Omega.{arith}
-use Rattle.base.proofs.Writing.{wrote_as, wrote_none, wrote_two}
+use lib.ListN.{length}
+use Rattle.answer.proofs.Lengths.{data_length}
 use Rattle.answer.proofs.writing.body.Goals as goal
 
-pub returns-in-Nothing : goal.returns-in-Nothing
-returns-in-Nothing c = wrote_as (wrote_none _ _ (omega arith)) (rw c.in-Nothing.is)
-
-pub returns-in-Alarm : goal.returns-in-Alarm
-returns-in-Alarm c =
-    wrote_as
-    c.three_bytes.ensures
-    (rw (c.in-Alarm.is, c.alarm_letter.ensures))
-
-pub returns-in-Answer : goal.returns-in-Answer
-returns-in-Answer c =
-    wrote_two
-    _
-    c.put-a.ensures
-    c.«data».ensures
-    (rw (c.in-Answer.is, c.status_letter.ensures))
+pub joined-requires-in-Answer : goal.joined-requires-in-Answer
+joined-requires-in-Answer c =
+    omega (arith, ap length (c.as_slice.ensures.value ∙ c.«data».ensures), data_length c.in-Answer.reply)

@@ -1,13 +1,13 @@
 -- `judge_diameter` meets its contract.
 -- Assumes nothing.
 use Rattle.command.specs.Judging.{judge_diameter}
-use Rattle.command.proofs.Verdicts.{judging}
+use Rattle.command.proofs.Verdicts.{in_range, idle_passes, idle_declines}
 use Rattle.command.proofs.judging.judge_diameter.Goals as goal
 
-pub returns-then-operating : goal.returns-then-operating
+pub returns-in_err-judge_idle : goal.returns-in_err-judge_idle
 unfolding judge_diameter
-returns-then-operating c = search judging
+returns-in_err-judge_idle c = idle_declines _ _ _ _ _ c.judge_idle.ensures c.in_err-judge_idle.was c.from_residual.ensures.1
 
 pub returns : goal.returns
 unfolding judge_diameter
-returns c = search judging
+returns c = idle_passes _ _ _ _ _ c.judge_idle.ensures c.in_ok-judge_idle.was (in_range _ _ _ c.if_in_range.ensures c.is_diameter.ensures)

@@ -8,9 +8,9 @@ pub returns-then-is_flow : goal.returns-then-is_flow
 unfolding judge_stored
 returns-then-is_flow c = search judging
 
-pub returns-then-is_ramp-is_own : goal.returns-then-is_ramp-is_own
+pub returns-then-is_ramp-is_none : goal.returns-then-is_ramp-is_none
 unfolding judge_stored
-returns-then-is_ramp-is_own c = search judging
+returns-then-is_ramp-is_none c = search judging
 
 pub returns : goal.returns
 unfolding judge_stored

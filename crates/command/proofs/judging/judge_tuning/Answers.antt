@@ -2,7 +2,7 @@
 -- Assumes nothing.
 use Rattle.program.proofs.Choosing.{chosen}
 use Rattle.command.specs.Judging.{judge_tuning}
-use Rattle.command.proofs.Choosing.{told_four}
+use Rattle.command.proofs.Choosing.{told_four, told_none}
 use Rattle.command.proofs.Verdicts.{judging}
 use Rattle.command.proofs.judging.judge_tuning.Goals as goal
 
@@ -15,7 +15,7 @@ returns-then-is_flow-is_visiting c =
     c.is_visiting.ensures
     _ _ _ _
     c.is_ramp.ensures
-    c.is_own.ensures
+    (told_none _ _ c.is_none.ensures)
     c.if-is_flow-is_visiting.true)
     c.judge_rate.ensures
 

@@ -8,7 +8,7 @@ unfolding clear_total
 returns c =
     rw (
       c.decide.ensures,
-      c.clear-after.ensures,
+      c.clear.ensures,
       c.judge_idle-verdict.ensures,
       c.is_operating.ensures,
     )

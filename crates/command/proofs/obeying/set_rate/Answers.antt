@@ -17,6 +17,6 @@ returns c =
     (rw (
       c.set_phase_to.ensures,
       c.with_stored.ensures,
-      c.unit_or.ensures,
+      c.unwrap_or.ensures,
       c.judge_stored-verdict.ensures,
     ))

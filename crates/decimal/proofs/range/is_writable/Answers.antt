@@ -14,5 +14,5 @@ returns-then-x-le99990 c = search ranges
 pub returns-then-x-le999900 : goal.returns-then-x-le999900
 returns-then-x-le999900 c = search ranges
 
-pub returns : goal.returns
-returns c = search (ranges, c.if-x-eq0.false)
+pub returns-else-x-le999900 : goal.returns-else-x-le999900
+returns-else-x-le999900 c = search (ranges, c.if-x-eq0.false)

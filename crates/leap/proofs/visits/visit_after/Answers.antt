@@ -12,8 +12,7 @@ returns-then-target-eq0 c = simp (eq-eqb _ _ c.if-target-eq0.true)
 
 pub overflow_add-result : goal.overflow_add-result
 overflow_add-result c =
-    let l = short_below c.args.visit c.args.stride.steps c.requires c.if-target-eq0.false in
-    omega (arith, l, c.struct_known-1.given.1.0)
+    omega (arith, short_below c.args.visit c.args.stride.steps c.requires c.if-target-eq0.false)
 
 pub returns : goal.returns
 unfolding given_after

@@ -1,18 +1,13 @@
 -- `amount_of` meets its contract: where there are units, all but the last two letters.
 -- Assumes nothing.
 use Rattle.line.proofs.Asking.{no_units, some_units, units_within}
-use native.Mathlib.Omega.{arith}
-use lib.ListN.{length-take}
 use Rattle.line.proofs.arguments.amount_of.Goals as goal
 
-pub overflow_sub-n : goal.overflow_sub-n
-overflow_sub-n c = search units_within
+pub returns-then-is_none : goal.returns-then-is_none
+returns-then-is_none c = no_units _ _ c.units_at_end.ensures c.if-is_none.ensures
 
-pub slice_bounds-result-end : goal.slice_bounds-result-end
-slice_bounds-result-end c = simp length-take (omega arith)
+pub slice_bounds-result-count : goal.slice_bounds-result-count
+slice_bounds-result-count c = units_within _ _ c.units_at_end.ensures c.if-is_none.ensures
 
-pub returns-in-Own : goal.returns-in-Own
-returns-in-Own c = search no_units
-
-pub returns-in-Given : goal.returns-in-Given
-returns-in-Given c = search some_units
+pub returns : goal.returns
+returns c = some_units _ _ c.units_at_end.ensures c.if-is_none.ensures

@@ -3,11 +3,11 @@
 use Rattle.line.proofs.Asking.{clearings}
 use Rattle.line.proofs.arguments.clear_asked.Goals as goal
 
-pub returns-in-To : goal.returns-in-To
-returns-in-To c = search clearings
+pub returns-in-Some-To : goal.returns-in-Some-To
+returns-in-Some-To c = search clearings
 
-pub returns-in-Reverse : goal.returns-in-Reverse
-returns-in-Reverse c = search clearings
+pub returns-in_default : goal.returns-in_default
+returns-in_default c = search clearings
 
-pub returns-in-NoHeading : goal.returns-in-NoHeading
-returns-in-NoHeading c = search clearings
+pub returns-in_default-2 : goal.returns-in_default-2
+returns-in_default-2 c = search clearings

@@ -1,18 +1,19 @@
 -- `direction_asked` meets its contract: nothing is the query, a direction or REV the setting.
 -- Assumes nothing.
+use Rattle.std.proofs.Common.{rules}
 use Rattle.line.proofs.Asking.{asks, directions}
 use Rattle.line.specs.Arguments.{direction_asked}
 use Rattle.line.proofs.arguments.direction_asked.Goals as goal
 
-pub returns-then-s-eq0 : goal.returns-then-s-eq0
+pub returns-then-is_empty : goal.returns-then-is_empty
 unfolding direction_asked
-returns-then-s-eq0 c = search asks
+returns-then-is_empty c = search (rules, asks)
 
-pub returns-in-To : goal.returns-in-To
-returns-in-To c = search directions
+pub returns-in-Some-To : goal.returns-in-Some-To
+returns-in-Some-To c = search (rules, directions)
 
-pub returns-in-Reverse : goal.returns-in-Reverse
-returns-in-Reverse c = search directions
+pub returns-in-Some-Reverse : goal.returns-in-Some-Reverse
+returns-in-Some-Reverse c = search (rules, directions)
 
-pub returns-in-NoHeading : goal.returns-in-NoHeading
-returns-in-NoHeading c = search directions
+pub returns-in-None : goal.returns-in-None
+returns-in-None c = search (rules, directions)

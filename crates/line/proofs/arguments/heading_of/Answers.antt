@@ -1,23 +1,41 @@
--- `heading_of` meets its contract: the first letter leaves one word to be tried, or none.
+-- `heading_of` meets its contract: a text of three letters is one of the words, or none.
 -- Assumes nothing.
-use mathlib.Core.Path.{sym, ◌∙◌}
-use lib.Dec.{lit<}
-use Rattle.base.specs.Text.{text, letter}
-use Rattle.drive.specs.declared.directions.Direction.TheVariants.{Infuse, Withdraw}
-use Rattle.line.specs.Arguments.{heading_of, headed_by}
-use Rattle.line.specs.declared.arguments.Heading.TheVariants as heading
-use Rattle.line.proofs.Letters.{by_first}
-use Rattle.line.proofs.Asking.{only_infuse, only_withdraw, only_reverse, no_heading}
+use native.Mathlib.Omega.{arith}
+use Rattle.line.proofs.Asking.{infuse, withdraw, reverse, no_heading}
 use Rattle.line.proofs.arguments.heading_of.Goals as goal
 
-pub returns-in-73 : goal.returns-in-73
-returns-in-73 c = c.headed_by.ensures ∙ sym (search (by_first heading_of (headed_by (heading.To Infuse) (text "INF")) (letter "I") (lit< tt) only_infuse))
+pub returns-in-INF : goal.returns-in-INF
+returns-in-INF c = infuse _ (omega arith, omega arith, omega arith, omega arith)
 
-pub returns-in-87 : goal.returns-in-87
-returns-in-87 c = c.headed_by-in-87.ensures ∙ sym (search (by_first heading_of (headed_by (heading.To Withdraw) (text "WDR")) (letter "W") (lit< tt) only_withdraw))
+pub returns-in-WDR : goal.returns-in-WDR
+returns-in-WDR c = withdraw _ (omega arith, omega arith, omega arith, omega arith)
 
-pub returns-in-82 : goal.returns-in-82
-returns-in-82 c = c.headed_by-in-82.ensures ∙ sym (search (by_first heading_of (headed_by heading.Reverse (text "REV")) (letter "R") (lit< tt) only_reverse))
+pub returns-in-REV : goal.returns-in-REV
+returns-in-REV c = reverse _ (omega arith, omega arith, omega arith, omega arith)
 
 pub returns-in_default : goal.returns-in_default
-returns-in_default c = search no_heading
+returns-in_default c = no_heading _ (λ w. omega arith) (λ w. omega arith) (λ w. omega arith)
+
+pub returns-in_default-2 : goal.returns-in_default-2
+returns-in_default-2 c = no_heading _ (λ w. omega arith) (λ w. omega arith) (λ w. omega arith)
+
+pub returns-in_default-3 : goal.returns-in_default-3
+returns-in_default-3 c = no_heading _ (λ w. omega arith) (λ w. omega arith) (λ w. omega arith)
+
+pub returns-in_default-4 : goal.returns-in_default-4
+returns-in_default-4 c = no_heading _ (λ w. omega arith) (λ w. omega arith) (λ w. omega arith)
+
+pub returns-in_default-5 : goal.returns-in_default-5
+returns-in_default-5 c = no_heading _ (λ w. omega arith) (λ w. omega arith) (λ w. omega arith)
+
+pub returns-in_default-6 : goal.returns-in_default-6
+returns-in_default-6 c = no_heading _ (λ w. omega arith) (λ w. omega arith) (λ w. omega arith)
+
+pub returns-in_default-7 : goal.returns-in_default-7
+returns-in_default-7 c = no_heading _ (λ w. omega arith) (λ w. omega arith) (λ w. omega arith)
+
+pub returns-in_default-8 : goal.returns-in_default-8
+returns-in_default-8 c = no_heading _ (λ w. omega arith) (λ w. omega arith) (λ w. omega arith)
+
+pub returns-in_default-9 : goal.returns-in_default-9
+returns-in_default-9 c = no_heading _ (λ w. omega arith) (λ w. omega arith) (λ w. omega arith)

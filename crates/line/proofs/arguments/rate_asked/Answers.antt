@@ -8,8 +8,8 @@ pub returns-then-n-eq0 : goal.returns-then-n-eq0
 unfolding rate_asked
 returns-then-n-eq0 c = search asks
 
-pub returns-in-Number : goal.returns-in-Number
-returns-in-Number c = search sets_rate
+pub returns-in-Some : goal.returns-in-Some
+returns-in-Some c = search sets_rate
 
-pub returns-in-NoNumber : goal.returns-in-NoNumber
-returns-in-NoNumber c = search no_rate
+pub returns-in-None : goal.returns-in-None
+returns-in-None c = search no_rate

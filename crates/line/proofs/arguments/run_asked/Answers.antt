@@ -1,18 +1,12 @@
 -- `run_asked` meets its contract: nothing is the query, what reads is the setting.
 -- Assumes nothing.
-use Rattle.line.proofs.Asking.{asks, sets_digits, no_digits}
+use Rattle.std.proofs.Common.{rules}
+use Rattle.line.proofs.Asking.{asked_is}
 use Rattle.line.specs.Arguments.{run_asked}
 use Rattle.words.specs.declared.commands.Command.TheVariants as command
 use Rattle.line.proofs.arguments.run_asked.Goals as goal
 
-pub returns-then-s-eq0 : goal.returns-then-s-eq0
+pub returns : goal.returns
 unfolding run_asked
-returns-then-s-eq0 c = search asks
-
-pub returns-in-Digits : goal.returns-in-Digits
-unfolding run_asked
-returns-in-Digits c = search (sets_digits command.Run command.RunFrom)
-
-pub returns-in-NoDigits : goal.returns-in-NoDigits
-unfolding run_asked
-returns-in-NoDigits c = search (no_digits command.Run command.RunFrom)
+returns c =
+    asked_is command.Run command.RunFrom _ _ _ _ (λ x k. search rules) _ c.read_two.ensures c.asked.ensures.query c.asked.ensures.setting

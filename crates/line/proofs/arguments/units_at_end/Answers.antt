@@ -3,8 +3,8 @@
 use Rattle.line.proofs.Asking.{too_few, last_two}
 use Rattle.line.proofs.arguments.units_at_end.Goals as goal
 
-pub returns-then-n-lt2 : goal.returns-then-n-lt2
-returns-then-n-lt2 c = search too_few
+pub returns-in_default : goal.returns-in_default
+returns-in_default c = search too_few
 
 pub returns : goal.returns
 returns c = search last_two

@@ -1,10 +1,14 @@
 -- `command_of` meets its contract: nothing is the query for the status, else the name tells what its argument is asked.
 -- Assumes nothing.
-use Rattle.line.proofs.Behind.{asks_status, asks_by_name}
+use Rattle.std.proofs.Common.{rules}
+use Rattle.line.proofs.Behind.{commands}
 use Rattle.line.proofs.commands.command_of.Goals as goal
 
-pub returns-then-s-eq0 : goal.returns-then-s-eq0
-returns-then-s-eq0 c = search asks_status
+pub returns-then-is_empty : goal.returns-then-is_empty
+returns-then-is_empty c = search (rules, commands)
 
-pub returns : goal.returns
-returns c = search asks_by_name
+pub returns-in-Some : goal.returns-in-Some
+returns-in-Some c = search (rules, commands)
+
+pub returns-in-None : goal.returns-in-None
+returns-in-None c = search (rules, commands)

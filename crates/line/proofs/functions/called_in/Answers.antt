@@ -1,16 +1,13 @@
 -- `called_in` meets its contract: the only function that can be called is called, if its name is there.
 -- Assumes nothing.
-use Rattle.line.proofs.Calling.{called, not_called, name_within, name_there}
+use Rattle.line.proofs.Leading.{starts_as}
+use Rattle.line.proofs.Calling.{called, not_called}
 use Rattle.line.proofs.functions.called_in.Goals as goal
 
-pub slice_bounds-name-end : goal.slice_bounds-name-end
-slice_bounds-name-end c = search name_within
+pub returns-then-starts_with : goal.returns-then-starts_with
+returns-then-starts_with c =
+    called _ _ c.only_function-f.ensures _ (starts_as _ _ _ _ c.name.ensures c.starts_with.ensures.value) c.if-starts_with.true
 
-pub slice_bounds-leads-end : goal.slice_bounds-leads-end
-slice_bounds-leads-end c = search name_there
-
-pub returns-then-leads : goal.returns-then-leads
-returns-then-leads c = search called
-
-pub returns : goal.returns
-returns c = search not_called
+pub returns-else-starts_with : goal.returns-else-starts_with
+returns-else-starts_with c =
+    not_called _ _ c.only_function-f.ensures _ (starts_as _ _ _ _ c.name.ensures c.starts_with.ensures.value) c.if-starts_with.false

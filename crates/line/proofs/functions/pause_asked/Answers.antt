@@ -3,8 +3,8 @@
 use Rattle.line.proofs.Behind.{pauses}
 use Rattle.line.proofs.functions.pause_asked.Goals as goal
 
-pub returns-in-Digits : goal.returns-in-Digits
-returns-in-Digits c = search pauses
+pub returns-in-Some : goal.returns-in-Some
+returns-in-Some c = search pauses
 
-pub returns-in-NoDigits : goal.returns-in-NoDigits
-returns-in-NoDigits c = search pauses
+pub returns-in-None : goal.returns-in-None
+returns-in-None c = search pauses

@@ -1,13 +1,14 @@
 -- `limit_asked` meets its contract: nothing is the query, one to three digits are the setting.
 -- Assumes nothing.
+use Rattle.std.proofs.Common.{rules}
 use Rattle.line.proofs.Requesting.{limits}
 use Rattle.line.proofs.requests.limit_asked.Goals as goal
 
-pub returns-then-s-eq0 : goal.returns-then-s-eq0
-returns-then-s-eq0 c = search limits
+pub returns-then-is_empty : goal.returns-then-is_empty
+returns-then-is_empty c = search (rules, limits)
 
-pub returns-in-Number : goal.returns-in-Number
-returns-in-Number c = search limits
+pub returns-in-Some : goal.returns-in-Some
+returns-in-Some c = search (rules, limits)
 
-pub returns-in-NoNumber : goal.returns-in-NoNumber
-returns-in-NoNumber c = search limits
+pub returns-in-None : goal.returns-in-None
+returns-in-None c = search (rules, limits)

@@ -1,13 +1,17 @@
 -- `Link::left` meets its contract.
 -- Assumes nothing.
-use mathlib.Core.Path.{sym, ap, ◌∙◌}
-use Rattle.link.specs.Link.{ticks_left, left_in}
+use Prim.Native.Nat.{ℕ}
+use mathlib.Core.Path.{◌≡◌, ◌∙◌}
+use Rattle.std.specs.Option.{option_map_or}
+use Rattle.std.proofs.Common.{rules}
+use Rattle.link.specs.Link.{ticks_left}
+use Rattle.link.specs.declared.Safety.{Safety}
+use Rattle.link.proofs.Modes.{left_is}
 use Rattle.link.proofs.Link.left.Goals as goal
 
-pub returns-in-Basic : goal.returns-in-Basic
+pub returns : goal.returns
 unfolding ticks_left
-returns-in-Basic c = ap left_in (sym c.in-Basic.is)
-
-pub returns-in-Safe : goal.returns-in-Safe
-unfolding ticks_left
-returns-in-Safe c = c.left.ensures ∙ ap left_in (sym c.in-Safe.is)
+returns c =
+    let read : c.map_or.result ≡ option_map_or (λ (s : Safety). option_map_or (λ (t : ℕ). t) s.timer 0) c.args.self.safety 0 =
+    search rules in
+    read ∙ left_is c.args.self.safety

@@ -12,10 +12,10 @@ closed_to-requires c =
     let full = c.well_formed.0.1.1.0.1.0.1 in
     rw c.older-older.ensures (older_small c.args.self.count c.args.self.slots full)
 
-pub returns-then-n-passes : goal.returns-then-n-passes
+pub returns-then-n-newest : goal.returns-then-n-newest
 unfolding lop
-returns-then-n-passes c =
-    let reached = rw c.newest-newest.ensures at c.if-n-passes.true in
+returns-then-n-newest c =
+    let reached = rw c.newest-newest.ensures at c.if-n-newest.true in
     rw (c.closed_to.ensures, c.older-older.ensures, older_first c.args.self.count c.args.self.slots)
     (simp (le-leb c.args.n ((newest (opened c.args.self)).passes + 1) (omega (arith, reached))))
 
@@ -24,13 +24,10 @@ opened_at-requires c =
     let full = c.well_formed.0.1.1.0.1.0.1 in
     rw c.older-older.ensures (older_small c.args.self.count c.args.self.slots full)
 
-pub overflow_add-result-2 : goal.overflow_add-result-2
-overflow_add-result-2 c = rw c.newest-newest.ensures (omega (arith, c.requires.begun))
-
 pub returns : goal.returns
 unfolding lop
 returns c =
-    let more = rw c.newest-newest.ensures at c.if-n-passes.false in
+    let more = rw c.newest-newest.ensures at c.if-n-newest.false in
     rw (c.opened_at.ensures, c.older-older.ensures)
     (rw (c.newest-newest.ensures, older_first c.args.self.count c.args.self.slots)
     (simp (lt-leb c.args.n ((newest (opened c.args.self)).passes + 1) (omega (arith, more)))))

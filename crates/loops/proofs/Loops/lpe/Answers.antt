@@ -5,9 +5,6 @@ use Rattle.loops.specs.Loops.{lpe}
 use Rattle.loops.proofs.Places.{older_first, older_small}
 use Rattle.loops.proofs.Loops.lpe.Goals as goal
 
-pub overflow_add-next : goal.overflow_add-next
-overflow_add-next c = rw c.newest-newest.ensures (omega (arith, c.requires.begun))
-
 pub opened_at-requires : goal.opened_at-requires
 opened_at-requires c =
     let full = c.well_formed.0.1.1.0.1.0.1 in

@@ -1,7 +1,6 @@
 -- `Loops::place` meets its contract.
 -- Assumes nothing.
 use mathlib.Core.Path.{sym, ◌∙◌}
-use borrow.Author.Tests.{lt-ltb, le-ltb}
 use Rattle.loops.proofs.Places.{place_at}
 use Rattle.loops.proofs.Loops.place.Goals as goal
 
@@ -26,16 +25,10 @@ returns-then-count-c c =
     (place_at c.args.phase c.args.self.count c.args.self.slots full
     ∙ simp (c.if-count-a.false, c.if-count-b.false, c.if-count-c.true))
 
-pub returns-then-count-lt3 : goal.returns-then-count-lt3
-returns-then-count-lt3 c =
-    let full = c.well_formed.0.1.1.0.1.0.1 in
-    sym
-    (place_at c.args.phase c.args.self.count c.args.self.slots full
-    ∙ simp (c.if-count-a.false, c.if-count-b.false, c.if-count-c.false, lt-ltb _ _ c.if-count-lt3.true))
-
 pub returns : goal.returns
 returns c =
     let full = c.well_formed.0.1.1.0.1.0.1 in
-    sym
+    rw c.min.ensures
+    (sym
     (place_at c.args.phase c.args.self.count c.args.self.slots full
-    ∙ simp (c.if-count-a.false, c.if-count-b.false, c.if-count-c.false, le-ltb _ _ c.if-count-lt3.false))
+    ∙ simp (c.if-count-a.false, c.if-count-b.false, c.if-count-c.false)))

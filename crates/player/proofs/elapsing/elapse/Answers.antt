@@ -5,14 +5,8 @@ use mathlib.Core.Path.{◌∙◌}
 use Rattle.player.proofs.Going.{begun_roomy, going_first, first_led, going_roomy, going_less, going_on, going_last}
 use Rattle.player.proofs.elapsing.elapse.Goals as goal
 
-pub onward-elapsed-requires : goal.onward-elapsed-requires
-onward-elapsed-requires c = begun_roomy _ _ _ c.new.ensures
-
 pub loop-elapsed-init : goal.loop-elapsed-init
 loop-elapsed-init c = going_first _ _ _ _ c.new.ensures c.onward-elapsed.ensures
-
-pub onward-elapsed-requires-in-loop-elapsed : goal.onward-elapsed-requires-in-loop-elapsed
-onward-elapsed-requires-in-loop-elapsed c = going_roomy _ _ _ c.loop-elapsed.invariant (omega arith) c.loop-elapsed-test.true
 
 pub loop-elapsed-smaller : goal.loop-elapsed-smaller
 loop-elapsed-smaller c = going_less _ _ _ c.loop-elapsed.invariant _ c.onward-elapsed-in-loop-elapsed.ensures c.loop-elapsed-test.true

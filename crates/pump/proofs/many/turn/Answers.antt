@@ -11,27 +11,8 @@ hop-hopped-requires c = (turn_current _ _ c.requires, c.requires.some)
 pub returns-then-hopped-gt0 : goal.returns-then-hopped-gt0
 returns-then-hopped-gt0 c = hops _ _ c.requires _ c.hop-hopped.ensures c.if-hopped-gt0.true
 
-pub leap-leapt-requires : goal.leap-leapt-requires
-leap-leapt-requires c = (turn_ready _ _ c.requires, omega (arith, c.requires.few_left))
-
 pub tick-moved-requires : goal.tick-moved-requires
 tick-moved-requires c = leapt_ready _ _ c.requires _ c.leap-leapt.ensures
-
-pub overflow_add-result : goal.overflow_add-result
-overflow_add-result c =
-    let l = c.leap-leapt.ensures in
-    omega (arith, c.requires.some, c.requires.few_left, c.requires.infused_few, l.few, l.within)
-
-pub overflow_add-result-3 : goal.overflow_add-result-3
-overflow_add-result-3 c =
-    let l = c.leap-leapt.ensures in
-    omega (arith, c.requires.some, c.requires.few_left, c.requires.withdrawn_few, l.few, l.within)
-
-pub overflow_add-result-4 : goal.overflow_add-result-4
-overflow_add-result-4 c =
-    let m = c.tick-moved in
-    let l = c.leap-leapt.ensures in
-    omega (arith, c.requires.some, c.requires.few_left, c.requires.beeps_few, l.few, l.within, flag_few m.result.beep)
 
 pub returns : goal.returns
 returns c =

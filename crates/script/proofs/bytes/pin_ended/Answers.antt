@@ -3,8 +3,8 @@
 use Rattle.script.proofs.Letters.{bytes}
 use Rattle.script.proofs.bytes.pin_ended.Goals as goal
 
-pub returns-then-some : goal.returns-then-some
-returns-then-some c = search bytes
+pub returns-in-Some : goal.returns-in-Some
+returns-in-Some c = search bytes
 
-pub returns : goal.returns
-returns c = search bytes
+pub returns-in-None : goal.returns-in-None
+returns-in-None c = search bytes

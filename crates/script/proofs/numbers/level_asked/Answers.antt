@@ -1,17 +1,16 @@
--- `level_asked` meets its contract: both numbers fit a byte.
+-- `level_asked` meets its contract: both numbers are there and fit a byte.
 -- Assumes nothing.
-use Rattle.script.proofs.Asking.{asked, pin_byte, level_byte}
-use native.Mathlib.Omega.{arith}
+use Rattle.script.proofs.Asking.{asked}
 use Rattle.script.proofs.numbers.level_asked.Goals as goal
 
-pub overflow_cast-result : goal.overflow_cast-result
-overflow_cast-result c = omega (arith, pin_byte)
+pub returns-in-Some : goal.returns-in-Some
+returns-in-Some c = search asked
 
-pub overflow_cast-result-then-some-pin : goal.overflow_cast-result-then-some-pin
-overflow_cast-result-then-some-pin c = omega (arith, level_byte)
+pub returns-in_default : goal.returns-in_default
+returns-in_default c = search asked
 
-pub returns-then-some-pin : goal.returns-then-some-pin
-returns-then-some-pin c = search asked
+pub returns-in_default-2 : goal.returns-in_default-2
+returns-in_default-2 c = search asked
 
-pub returns : goal.returns
-returns c = search asked
+pub returns-in_default-3 : goal.returns-in_default-3
+returns-in_default-3 c = search asked

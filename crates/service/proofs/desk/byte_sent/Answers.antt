@@ -10,6 +10,3 @@ slice_bounds-answer-end g c = let few = answer_few _ _ _ c.byte-report.ensures.0
 
 pub slice_bounds-answered-end : goal.slice_bounds-answered-end
 slice_bounds-answered-end g c = let few = answer_few _ _ _ c.byte-report.ensures.0 in simp length-take (omega (arith, few))
-
-pub answered-requires : goal.answered-requires
-answered-requires g c = let few = answer_few _ _ _ c.byte-report.ensures.0 in simp length-take (omega (arith, few))

@@ -16,17 +16,12 @@ slice_bounds-answered-end g c =
     let few = packet_few _ _ _ c.portion.ensures _ c.ticks-report.ensures.0 in
     simp length-take (omega (arith, few))
 
-pub answered-requires : goal.answered-requires
-answered-requires g c =
-    let few = packet_few _ _ _ c.portion.ensures _ c.ticks-report.ensures.0 in
-    simp length-take (omega (arith, few))
-
 pub overflow_sub-left : goal.overflow_sub-left
 overflow_sub-left g c = call_few _ _ _ c.portion.ensures _ c.ticks-report.ensures.0
 
 pub loop-left-smaller : goal.loop-left-smaller
 loop-left-smaller g c =
-    let taken = sym c.is_refused.ensures ∙ c.if-is_refused.false in
+    let taken = sym c.is_some.ensures ∙ c.if-is_some.false in
     let asked = c.portion.ensures in
     let told = c.ticks-report.ensures.0 in
     omega (arith, call_some _ _ _ asked _ told (omega arith) taken, call_few _ _ _ asked _ told)

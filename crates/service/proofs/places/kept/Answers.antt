@@ -1,27 +1,16 @@
 -- `kept` meets its contract: a byte of a text, held where there is room for it.
 -- Assumes nothing.
-use native.Mathlib.Omega.{arith}
-use Rattle.service.proofs.Held.{text_short, text_free, kept_place_lem, kept_held_lem, lost_place, lost_held}
+use Rattle.service.proofs.Held.{keeping}
 use Rattle.service.proofs.places.kept.Goals as goal
-
-pub bounds-held-n : goal.bounds-held-n
-bounds-held-n c = omega (arith, text_free)
-
-pub overflow_add-result : goal.overflow_add-result
-overflow_add-result c = omega (arith, text_short)
-
-pub text_end-requires : goal.text_end-requires
-text_end-requires c = omega (arith, text_short)
+use Rattle.service.proofs.places.kept.Goals.{else-n-le-MOST_DATA-via-then-n-le-MOST_DATA+else-n-held}
+use Rattle.service.proofs.places.kept.Goals.{else-n-le-MOST_DATA-via-else-n-le-MOST_DATA}
 
 pub returns-then-n-held : goal.returns-then-n-held
-returns-then-n-held c =
-    let inside = c.if-n-held.true in (
-      kept_place_lem c.args.n c.args.held.now c.args.b _ c.text_end.ensures inside,
-      kept_held_lem c.args.n c.args.held.now c.args.b inside,
-    )
+returns-then-n-held c = search keeping
 
 pub returns : goal.returns
-returns c = (
-  lost_place c.args.n c.args.held.now c.args.b c.if-n-held.false,
-  lost_held c.args.n c.args.held.now c.args.b c.if-n-held.false,
-)
+returns c =
+    elim c.else-n-le-MOST_DATA.branch [
+      | else-n-le-MOST_DATA-via-then-n-le-MOST_DATA+else-n-held w ↦ search keeping
+      | else-n-le-MOST_DATA-via-else-n-le-MOST_DATA w ↦ search keeping
+    ]

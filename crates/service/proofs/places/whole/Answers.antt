@@ -1,25 +1,24 @@
 -- `whole` meets its contract: a byte of two digits, held where there is room for it.
 -- Assumes nothing.
 use native.Mathlib.Omega.{arith}
-use Rattle.service.proofs.Held.{low_small, high_small, place_free, wholes}
+use Rattle.service.proofs.Digits.{value_small}
+use Rattle.service.proofs.Held.{whole_place_lem, whole_held_lem, broken}
 use Rattle.service.proofs.places.whole.Goals as goal
 
-pub overflow_mul-held : goal.overflow_mul-held
-overflow_mul-held c = omega (arith, high_small)
-
 pub overflow_add-held : goal.overflow_add-held
-overflow_add-held c =
-    let low = low_small c.args.n c.args.high c.digit-low.result c.args.held.now c.if-low-high.true in
-    omega (arith, high_small, low)
+overflow_add-held c = let low = value_small _ _ c.in-Some.ensures in omega (arith, low)
 
-pub bounds-held-n : goal.bounds-held-n
-bounds-held-n c = omega (arith, place_free)
+pub returns-in-Some : goal.returns-in-Some
+returns-in-Some c = (
+  whole_place_lem _ _ _ _ _ c.in-Some.ensures c.if-high-lt16.true c.if-n-held.true,
+  whole_held_lem _ _ _ _ _ c.in-Some.ensures c.if-high-lt16.true c.if-n-held.true,
+)
 
-pub overflow_add-result : goal.overflow_add-result
-overflow_add-result c = omega (arith, place_free)
+pub returns-in_default : goal.returns-in_default
+returns-in_default c = search broken
 
-pub returns-then-low-high : goal.returns-then-low-high
-returns-then-low-high c = search wholes
+pub returns-in_default-2 : goal.returns-in_default-2
+returns-in_default-2 c = search broken
 
-pub returns : goal.returns
-returns c = search wholes
+pub returns-in_default-3 : goal.returns-in_default-3
+returns-in_default-3 c = search broken

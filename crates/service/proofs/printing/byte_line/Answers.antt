@@ -1,13 +1,15 @@
 -- `byte_line` meets its contract: refused, no answer, or an answer.
 -- Assumes nothing.
+use mathlib.Core.Path.{sym, ◌∙◌}
 use Rattle.service.proofs.Lines.{byte_refused, byte_silent, byte_answered}
 use Rattle.service.proofs.printing.byte_line.Goals as goal
 
 pub returns-then-refused : goal.returns-then-refused
-returns-then-refused c = search byte_refused
+returns-then-refused c =
+    c.line_of.ensures ∙ c.as_slice.ensures.value ∙ c.complaint.ensures ∙ byte_refused _ _ c.if-refused.true
 
-pub returns-then-answer-eq0 : goal.returns-then-answer-eq0
-returns-then-answer-eq0 c = byte_silent _ _ c.if-refused.false c.if-answer-eq0.true
+pub returns-then-is_empty : goal.returns-then-is_empty
+returns-then-is_empty c = c.new.ensures ∙ byte_silent _ _ c.if-refused.false (sym c.is_empty.ensures ∙ c.if-is_empty.true)
 
 pub returns : goal.returns
-returns c = search byte_answered
+returns c = c.hex_line.ensures ∙ byte_answered _ _ c.if-refused.false (sym c.is_empty.ensures ∙ c.if-is_empty.false)

@@ -1,18 +1,10 @@
 -- `effects_line` meets its contract: five counts with their letters.
 -- Assumes nothing.
-use Rattle.service.proofs.Lines.{effects_prints}
+use native.Mathlib.Omega.{arith}
+use Rattle.std.proofs.lemmas.Grind.{common_steps}
+use Rattle.service.proofs.Lines.{effects_lem}
 use Rattle.service.proofs.printing.effects_line.Goals as goal
 
 pub returns : goal.returns
 returns c =
-    effects_prints
-    _
-    _
-    _
-    _
-    _
-    c.labelled-a.ensures
-    c.labelled-b.ensures
-    c.labelled-c.ensures
-    c.labelled-d.ensures
-    c.labelled.ensures
+    let a = c.args in grind (arith, common_steps, effects_lem a.n a.infused a.withdrawn a.beeps a.level)

@@ -1,32 +1,29 @@
 -- `hex_line` meets its contract: the digits of each byte, and a newline.
 -- Assumes nothing.
+use mathlib.Core.Path.{◌∙◌, ap, refl}
+use mathlib.Core.List.{List, ◌∷◌, [], ◌++◌}
+use Prim.Native.Nat.{ℕ}
 use native.Mathlib.Omega.{arith}
-use Rattle.service.proofs.Hexadecimal.{spelt_none, spelt_kept, spelling}
+use Rattle.service.proofs.Hexadecimal.{spelt_none, spelt_length, spelt_more, spelt_all}
 use Rattle.service.proofs.printing.hex_line.Goals as goal
 
-pub loop-i-init : goal.loop-i-init
-loop-i-init c = spelt_none _ _ (omega arith) (omega arith)
+pub loop-b-init : goal.loop-b-init
+loop-b-init c = rw c.new-line.ensures (spelt_none _)
 
-pub bounds-answer-i : goal.bounds-answer-i
-bounds-answer-i c = omega arith
+pub push-requires : goal.push-requires
+push-requires c = (omega arith, omega (arith, spelt_length c.loop-b.invariant))
 
-pub hex_byte-end-requires : goal.hex_byte-end-requires
-hex_byte-end-requires c = search spelling
+pub push-requires-in-loop-b : goal.push-requires-in-loop-b
+push-requires-in-loop-b c = (omega arith, omega (arith, spelt_length c.loop-b.invariant, c.push.ensures.len))
 
-pub overflow_add-i : goal.overflow_add-i
-overflow_add-i c = omega arith
+pub push-requires-2 : goal.push-requires-2
+push-requires-2 c = (omega arith, omega (arith, spelt_length c.loop-b.invariant, c.loop-b.invariant.within))
 
-pub loop-i-smaller : goal.loop-i-smaller
-loop-i-smaller c = omega arith
-
-pub loop-i-preserved : goal.loop-i-preserved
-loop-i-preserved c = search spelling
-
-pub put-requires : goal.put-requires
-put-requires c = search spelling
-
-pub shape_of-out : goal.shape_of-out
-shape_of-out c = omega (arith, spelt_kept c.loop-i.invariant)
+pub loop-b-preserved : goal.loop-b-preserved
+loop-b-preserved c =
+    rw
+    (c.push-in-loop-b.ensures.items, c.push.ensures.items)
+    (spelt_more c.loop-b.invariant _ _ c.loop-b-test.true c.hex_digit.ensures c.hex_digit-in-loop-b.ensures)
 
 pub returns : goal.returns
-returns c = search spelling
+returns c = c.push-2.ensures.items ∙ spelt_all c.loop-b.invariant c.loop-b-test.false

@@ -4,9 +4,6 @@ use Rattle.program.proofs.Choosing.{choices}
 use Rattle.tick.specs.Entering.{arm_trap}
 use Rattle.tick.proofs.entering.arm_trap.Goals as goal
 
-pub go_on-requires : goal.go_on-requires
-go_on-requires c = rw c.with_trap.ensures c.requires
-
 pub returns-then-four : goal.returns-then-four
 unfolding arm_trap
 returns-then-four c = rw (c.go_on.ensures, c.with_trap.ensures) (simp c.if-four.true)

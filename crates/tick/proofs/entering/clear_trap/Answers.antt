@@ -3,9 +3,6 @@
 use Rattle.tick.specs.Entering.{clear_trap}
 use Rattle.tick.proofs.entering.clear_trap.Goals as goal
 
-pub go_on-requires : goal.go_on-requires
-go_on-requires c = rw c.with_trap.ensures c.requires
-
 pub returns : goal.returns
 unfolding clear_trap
 returns c = rw (c.go_on.ensures, c.with_trap.ensures)

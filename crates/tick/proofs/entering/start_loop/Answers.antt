@@ -1,17 +1,15 @@
 -- `start_loop` meets its contract.
 -- Assumes nothing.
-use Rattle.tick.specs.Entering.{start_loop}
+use mathlib.Core.Path.{sym, ap, ◌∙◌}
+use Rattle.tick.specs.Entering.{begun, start_loop}
 use Rattle.tick.proofs.entering.start_loop.Goals as goal
 
-pub returns-then-began : goal.returns-then-began
+pub returns-in_default : goal.returns-in_default
 unfolding start_loop
-returns-then-began c = rw c.raise.ensures (simp (rw c.lps-began.ensures at c.if-began.true))
-
-pub go_on-requires : goal.go_on-requires
-go_on-requires c = rw c.with_loops.ensures c.requires
+returns-in_default c = rw c.raise.ensures (ap (begun c.args.run) (sym c.in_default.is ∙ c.lps.ensures))
 
 pub returns : goal.returns
 unfolding start_loop
 returns c =
-    rw (c.go_on.ensures, c.with_loops.ensures, c.lps-began.ensures)
-    (simp (rw c.lps-began.ensures at c.if-began.false))
+    rw (c.go_on.ensures, c.with_loops.ensures)
+    (ap (begun c.args.run) (sym c.in-Some.is ∙ c.lps.ensures))

@@ -9,22 +9,9 @@ use Rattle.dispense.proofs.Counting.{taken_off, taken_at_most}
 use Rattle.dispense.proofs.visits.Visit.work.Goals as goal
 use Rattle.dispense.proofs.visits.Visit.work.Goals.{then-due-left, else-due-left}
 
-pub overflow_mul-store : goal.overflow_mul-store
-overflow_mul-store c = rw c.due_in-due.ensures (omega (arith, taken_at_most (c.args.self.store + c.args.hourly) c.args.threshold, c.requires.usable))
-
-pub overflow_sub-store : goal.overflow_sub-store
-overflow_sub-store c = rw c.due_in-due.ensures (taken_at_most _ _)
-
 pub returns-then-target-eq0 : goal.returns-then-target-eq0
 unfolding worked_of given_of store_of steps_of due_of
 returns-then-target-eq0 c = rw (c.due_in-due.ensures, taken_off _ _) (simp (eq-eqb _ _ c.if-target-eq0.true))
-
-pub overflow_add-result : goal.overflow_add-result
-overflow_add-result c =
-    -- the steps that the two ways to here give
-    let given : c.if-due-left.steps ≡ min ((c.args.self.store + c.args.hourly) / c.args.threshold) (c.args.self.target - c.args.self.given) =
-    elim c.if-due-left.branch [ then-due-left w ↦ omega (arith, c.due_in-due.ensures) | else-due-left w ↦ omega (arith, c.due_in-due.ensures) ] in
-    omega (arith, given, c.requires.within)
 
 pub returns : goal.returns
 unfolding worked_of given_of store_of steps_of due_of

@@ -3,7 +3,7 @@
 use mathlib.Core.Path.{refl}
 use native.Mathlib.Omega.{arith}
 use Rattle.drive.specs.Rates.{is_usable}
-use Rattle.drive.proofs.Bounds.{threshold_narrow, per_hour_ge, usable_by_division}
+use Rattle.drive.proofs.Bounds.{threshold_narrow, usable_by_division}
 use Rattle.drive.proofs.syringe.Syringe.is_usable.Goals as goal
 
 pub overflow_mul-limit : goal.overflow_mul-limit
@@ -12,9 +12,6 @@ overflow_mul-limit c = rw c.step_threshold-limit.ensures (omega (arith, threshol
 pub returns-then-rate-le-MOST_RATE : goal.returns-then-rate-le-MOST_RATE
 unfolding is_usable
 returns-then-rate-le-MOST_RATE c = rw (c.hourly_rate.ensures, c.step_threshold-limit.ensures) refl
-
-pub nonzero_div-result : goal.nonzero_div-result
-nonzero_div-result c = rw c.per_hour.ensures (omega (arith, per_hour_ge c.args.unit))
 
 pub returns : goal.returns
 returns c = rw (c.per_hour.ensures, c.step_threshold-limit.ensures) (usable_by_division _ _ _ (omega (arith, c.if-rate-le-MOST_RATE.false)))

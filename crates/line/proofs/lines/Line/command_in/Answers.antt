@@ -1,10 +1,8 @@
 -- `Line::command_in` meets its contract: an over-long line is malformed, any other asks for what stands behind its address.
 -- Assumes nothing.
-use Rattle.line.proofs.Collecting.{command_kept}
-use lib.ListN.{length, length-take}
-use mathlib.Core.Path.{◌≡◌}
-use native.Mathlib.Omega.{arith}
-use lib.ListN.{length-take}
+use mathlib.Core.Path.{ap, ◌∙◌}
+use Rattle.line.specs.Addresses.{unaddressed}
+use Rattle.line.specs.Commands.{command_of}
 use Rattle.line.specs.Lines.{command_in}
 use Rattle.line.proofs.lines.Line.command_in.Goals as goal
 
@@ -12,21 +10,6 @@ pub returns-then-self : goal.returns-then-self
 unfolding command_in
 returns-then-self c = simp c.if-self.true
 
-pub slice_bounds-bytes-end : goal.slice_bounds-bytes-end
-slice_bounds-bytes-end c =
-    let full : length c.args.self.bytes ≡ 40 =
-    c.well_formed.0.1.1.0.1.0.1 in
-    omega (arith, c.held-n.ensures)
-
-pub slice_bounds-unaddressed-end : goal.slice_bounds-unaddressed-end
-slice_bounds-unaddressed-end c =
-    let full : length c.args.self.bytes ≡ 40 =
-    c.well_formed.0.1.1.0.1.0.1 in
-    simp length-take (omega (arith, c.held-n.ensures))
-
-pub returns : goal.returns
-returns c =
-    command_kept c.args.self _
-    c.well_formed.0.1.1.0.1.0.1
-    c.held-n.ensures _ _ c.if-self.false
-    c.unaddressed.ensures c.command_of.ensures
+pub returns-else-self : goal.returns-else-self
+unfolding command_in
+returns-else-self c = simp c.if-self.false (c.command_of.ensures ∙ ap command_of (c.unaddressed.ensures ∙ ap unaddressed c.text.ensures))

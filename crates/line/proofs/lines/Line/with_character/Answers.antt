@@ -4,10 +4,10 @@ use borrow.Author.Tests.{lt-ltb, le-ltb}
 use Rattle.line.specs.Lines.{with_character}
 use Rattle.line.proofs.lines.Line.with_character.Goals as goal
 
-pub returns-then-len-lt40 : goal.returns-then-len-lt40
+pub returns-then-self-lt40 : goal.returns-then-self-lt40
 unfolding with_character
-returns-then-len-lt40 c = simp (lt-ltb _ _ c.if-len-lt40.true)
+returns-then-self-lt40 c = simp (lt-ltb _ _ c.if-self-lt40.true)
 
-pub returns : goal.returns
+pub returns-else-self-lt40 : goal.returns-else-self-lt40
 unfolding with_character
-returns c = simp (le-ltb _ _ c.if-len-lt40.false)
+returns-else-self-lt40 c = simp (le-ltb _ _ c.if-self-lt40.false)

@@ -4,10 +4,10 @@ use mathlib.Core.Path.{sym, ap}
 use Rattle.packet.specs.Receiver.{sound_place, sound_receiver}
 use Rattle.packet.proofs.receiver.Receiver.sound.Goals as goal
 
-pub returns-in-Outside : goal.returns-in-Outside
+pub returns-in-None : goal.returns-in-None
 unfolding sound_receiver
-returns-in-Outside c = ap sound_place (sym c.in-Outside.is)
+returns-in-None c = ap sound_place (sym c.in-None.is)
 
-pub returns-in-Inside : goal.returns-in-Inside
+pub returns-in-Some : goal.returns-in-Some
 unfolding sound_receiver
-returns-in-Inside c = rw c.sound_stage.ensures (ap sound_place (sym c.in-Inside.is))
+returns-in-Some c = rw c.sound_stage.ensures (ap sound_place (sym c.in-Some.is))

@@ -1,52 +1,36 @@
--- `Bench::feed` meets its contract: after i turns the bench and the buffer are those of i bytes.
+-- `Bench::feed` meets its contract: after some turns the bench and the buffer are those of as many bytes.
 -- Assumes nothing.
-use mathlib.Core.Path.{sym, ◌∙◌}
+use mathlib.Core.Path.{refl, sym, ◌∙◌}
 use native.Mathlib.Omega.{arith}
-use Rattle.player.proofs.Playing.{feeding_none, feeding_act, feeding_wait, feeding_as, byte_more, room_more, feeding_ends}
+use Rattle.base.proofs.Writing.{wrote_as}
+use Rattle.player.proofs.Playing.{feeding_none, feeding_act, feeding_wait, feeding_as, feeding_all, feeding_full}
 use Rattle.player.proofs.feeding.Bench.feed.Goals as goal
 use Rattle.player.proofs.feeding.Bench.feed.Goals.{then-is_deed, else-is_deed}
+use Rattle.player.proofs.feeding.Bench.feed.Goals.{else-loop-b-test, then-loop-b-test+then-out-end-lt-ROOM}
 
-pub loop-i-init : goal.loop-i-init
-loop-i-init c = feeding_none _ _ _
+pub loop-b-init : goal.loop-b-init
+loop-b-init c = (refl, feeding_none _ _ _)
 
-pub overflow_sub-out : goal.overflow_sub-out
-overflow_sub-out c = omega arith
-
-pub bounds-s-i : goal.bounds-s-i
-bounds-s-i c = byte_more c.args.s.now c.loop-i.out c.loop-i.i c.loop-i.acted.end c.loop-i-test.true
-
-pub act-acted-requires : goal.act-acted-requires
-act-acted-requires c =
-    let h = room_more c.args.s.now c.loop-i.out c.loop-i.i c.loop-i.acted.end c.loop-i-test.true in
-    omega arith
-
-pub overflow_add-i : goal.overflow_add-i
-overflow_add-i c =
-    let h = byte_more c.args.s.now c.loop-i.out c.loop-i.i c.loop-i.acted.end c.loop-i-test.true in
-    omega arith
-
-pub loop-i-smaller : goal.loop-i-smaller
-loop-i-smaller c =
-    let h = byte_more c.args.s.now c.loop-i.out c.loop-i.i c.loop-i.acted.end c.loop-i-test.true in
-    omega arith
-
-pub loop-i-preserved : goal.loop-i-preserved
-loop-i-preserved c =
-    let h = byte_more c.args.s.now c.loop-i.out c.loop-i.i c.loop-i.acted.end c.loop-i-test.true in
-    elim c.if-is_deed.branch [
-      | then-is_deed w ↦
-          feeding_as w.out-is w.acted-is
-          (feeding_act c.loop-i.invariant h _ c.after-step.ensures w.act-acted.ensures.0 w.act-acted.ensures.1)
-      | else-is_deed w ↦
-          feeding_as w.out-is w.acted-is
-          (feeding_wait c.loop-i.invariant h _ c.after-step.ensures (sym c.is_deed.ensures ∙ w.if-is_deed.false) (omega arith))
-    ]
-
-pub shape_of-out : goal.shape_of-out
-shape_of-out c = omega arith
+pub loop-b-preserved : goal.loop-b-preserved
+loop-b-preserved c = (
+  omega arith,
+  elim c.if-is_deed.branch [
+    | then-is_deed w ↦
+        let lines = wrote_as w.copy-end.ensures (w.as_slice.ensures.value ∙ w.act-acted.ensures.lines) in
+        feeding_as w.out-is w.rig-is w.end-is
+        (feeding_act c.loop-b.invariant.1 c.loop-b-test.true _ c.after-step.ensures w.act-acted.ensures.rig lines)
+    | else-is_deed w ↦
+        feeding_as w.out-is w.rig-is w.end-is
+        (feeding_wait c.loop-b.invariant.1 c.loop-b-test.true _ c.after-step.ensures (sym c.is_deed.ensures ∙ w.if-is_deed.false) (omega arith))
+  ],
+)
 
 pub returns : goal.returns
 returns c =
-    rw c.new.ensures
-    (feeding_ends c.args.s.now c.loop-i.out c.loop-i.i c.loop-i.acted.end c.loop-i.invariant c.requires
-    c.loop-i-test.false)
+    let f = c.loop-b.invariant.1 in
+    rw
+    (c.new.ensures, c.loop-b.invariant.0)
+    (elim c.loop-b-test.branch [
+      | else-loop-b-test w ↦ feeding_all f w.loop-b-test.false
+      | then-loop-b-test+then-out-end-lt-ROOM w ↦ feeding_full f c.requires w.if-out-end-lt-ROOM.true
+    ])

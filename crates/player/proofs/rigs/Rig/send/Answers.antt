@@ -1,18 +1,29 @@
 -- `Rig::send` meets its contract: one byte, or a return and one byte.
 -- Assumes nothing.
-use Rattle.player.proofs.Acting.{held_rig, held_prints, plain_rig, plain_prints}
+use Rattle.player.specs.Rigs.{send_rig, send_lines}
 use Rattle.player.proofs.rigs.Rig.send.Goals as goal
 
-pub returns-then-held : goal.returns-then-held
-returns-then-held c =
-    let g = c.args.self in
-    let e = c.sent-first.ensures in
-    let f = c.sent.ensures in
-    let h = c.if-held.true in
-    (held_rig g _ _ h _ e.0 _ f.0, held_prints g _ _ h _ e.0 e.1 f.1)
+pub returns-then-held-clause-rig : goal.returns-then-held-clause-rig
+unfolding send_rig
+returns-then-held-clause-rig c = rw (c.if-held.true, c.sent-second.ensures.rig, c.sent-first.ensures.rig)
 
-pub returns : goal.returns
-returns c =
-    let f = c.sent-2.ensures in
-    let h = c.if-held.false in
-    (plain_rig _ _ _ h _ f.0, plain_prints _ _ _ h f.1)
+pub returns-then-held-clause-lines : goal.returns-then-held-clause-lines
+unfolding send_lines
+returns-then-held-clause-lines c =
+    rw (
+      c.if-held.true,
+      c.joined.ensures,
+      c.as_slice.ensures.value,
+      c.as_slice-then-held.ensures.value,
+      c.sent-first.ensures.lines,
+      c.sent-second.ensures.lines,
+      c.sent-first.ensures.rig,
+    )
+
+pub returns-clause-rig : goal.returns-clause-rig
+unfolding send_rig
+returns-clause-rig c = rw c.if-held.false c.sent.ensures.rig
+
+pub returns-clause-lines : goal.returns-clause-lines
+unfolding send_lines
+returns-clause-lines c = rw c.if-held.false c.sent.ensures.lines

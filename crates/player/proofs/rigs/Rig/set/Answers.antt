@@ -1,9 +1,14 @@
 -- `Rig::set` meets its contract: what the pin call does, and whether it was refused.
 -- Assumes nothing.
-use Rattle.player.proofs.Acting.{set_acted}
+use mathlib.Core.Path.{ap}
+use Rattle.pump.specs.declared.reports.Report.{Report}
+use Rattle.player.specs.Rigs.{with_pump, set_rig, set_lines}
 use Rattle.player.proofs.rigs.Rig.set.Goals as goal
 
-pub returns : goal.returns
-returns c =
-    set_acted c.args.self _ _ _ _ _ c.pin-report.ensures c.is_refused.ensures c.refusal_line.ensures
-    c.new.ensures
+pub returns-clause-rig : goal.returns-clause-rig
+unfolding set_rig
+returns-clause-rig c = ap (λ (r : Report). with_pump c.args.self r.pump) c.pin-report.ensures
+
+pub returns-clause-lines : goal.returns-clause-lines
+unfolding set_lines
+returns-clause-lines c = rw (c.refusal_line.ensures, c.is_some.ensures, c.pin-report.ensures)

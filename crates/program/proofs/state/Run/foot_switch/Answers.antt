@@ -4,11 +4,11 @@ use Rattle.program.proofs.Choosing.{told}
 use Rattle.program.proofs.Switching.{switching}
 use Rattle.program.proofs.state.Run.foot_switch.Goals as goal
 
+pub returns-then-is_some : goal.returns-then-is_some
+returns-then-is_some c = search (switching, told)
+
 pub returns-then-is_moving : goal.returns-then-is_moving
 returns-then-is_moving c = search (switching, told)
 
-pub returns-in-Raised : goal.returns-in-Raised
-returns-in-Raised c = search switching
-
-pub returns-else-is_moving : goal.returns-else-is_moving
-returns-else-is_moving c = search (switching, told)
+pub returns : goal.returns
+returns c = search (switching, told)

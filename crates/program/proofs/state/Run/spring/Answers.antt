@@ -8,7 +8,7 @@ pub returns-in_default : goal.returns-in_default
 returns-in_default c = spring_none _ c.in_default.is
 
 pub returns-then-is_operating : goal.returns-then-is_operating
-returns-then-is_operating c = spring_on _ _ _ (told _ _ _ c.is_operating.ensures c.if-is_operating.true) c.in-Armed.is c.fire.ensures
+returns-then-is_operating c = spring_on _ _ _ (told _ _ _ c.is_operating.ensures c.if-is_operating.true) c.in-Some.is c.fire.ensures
 
 pub returns : goal.returns
 returns c = spring_off _ (told _ _ _ c.is_operating.ensures c.if-is_operating.false)

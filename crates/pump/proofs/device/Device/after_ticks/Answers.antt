@@ -13,16 +13,6 @@ use Rattle.pump.proofs.Alarms.{after_still, after_due, after_work}
 use Rattle.pump.proofs.device.Device.after_ticks.Goals as goal
 use Rattle.pump.proofs.device.Device.after_ticks.Goals.{then-is_due, else-is_due}
 
-pub ticked-self-requires : goal.ticked-self-requires
-ticked-self-requires c =
-    let same : c.if-is_due.self.link ≡ c.args.self.link =
-    elim c.if-is_due.branch [
-      | then-is_due w ↦ ap (λ (x : Device). x.link) w.self-is
-      | else-is_due w ↦ ap (λ (x : Device). x.link) w.self-is
-    ] in
-    let some : 0 < c.args.n = ltb-true 0 c.args.n (and_left (ltb 0 c.args.n) _ c.if-n-is_safe.true) in
-    subst (λ (l : Link). is_sound_link l ≡ true) (sym same) (c.requires some)
-
 pub returns-after-is_due : goal.returns-after-is_due
 returns-after-is_due c =
     let v = c.args.self in

@@ -3,8 +3,8 @@
 use Rattle.pump.proofs.Hearing.{hearing}
 use Rattle.pump.proofs.device.Device.ours.Goals as goal
 
-pub returns-in-Raised : goal.returns-in-Raised
-returns-in-Raised c = search hearing
+pub returns-in-Some : goal.returns-in-Some
+returns-in-Some c = search hearing
 
 pub returns : goal.returns
 returns c = search hearing

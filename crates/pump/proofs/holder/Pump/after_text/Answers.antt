@@ -5,9 +5,6 @@ use native.Mathlib.Omega.{arith}
 use Rattle.pump.proofs.Calling.{few_in_hand, listened_as}
 use Rattle.pump.proofs.holder.Pump.after_text.Goals as goal
 
-pub overflow_add-n : goal.overflow_add-n
-overflow_add-n c = let few : c.in_hand-n.result ≤ 100 = search few_in_hand in omega (arith, few)
-
 pub returns : goal.returns
 returns c =
     let full = c.well_formed.0.1.1.0.1.0.1 in

@@ -1,23 +1,18 @@
 -- `Pump::with_phase` meets its contract.
 -- Assumes nothing.
-use native.Mathlib.Omega.{arith}
-use Rattle.pump.proofs.Phases.{number_least, number_most, set_within, set_past}
+use Rattle.pump.proofs.Phases.{set_within, set_over, set_under}
 use Rattle.pump.proofs.holder.Pump.with_phase.Goals as goal
+use Rattle.pump.proofs.holder.Pump.with_phase.Goals.{else-n-ge1-via-then-n-ge1+else-n-le-PHASES, else-n-ge1-via-else-n-ge1}
 
-pub overflow_sub-i : goal.overflow_sub-i
-overflow_sub-i c = number_least 41 _ c.if-n.true
-
-pub bounds-self-i : goal.bounds-self-i
-bounds-self-i c =
-    let n = c.args.n in
-    omega (arith, number_least 41 n c.if-n.true, number_most 41 n c.if-n.true)
-
-pub returns-then-n : goal.returns-then-n
-returns-then-n c =
+pub returns-then-n-le-PHASES : goal.returns-then-n-le-PHASES
+returns-then-n-le-PHASES c =
     let full = c.well_formed.0.1.1.0.1.0.1 in
-    set_within c.args.self c.args.n c.args.phase full c.if-n.true
+    set_within c.args.self c.args.n c.args.phase full c.if-n-ge1.true c.if-n-le-PHASES.true
 
-pub returns-else-n : goal.returns-else-n
-returns-else-n c =
+pub returns-else-n-ge1 : goal.returns-else-n-ge1
+returns-else-n-ge1 c =
     let full = c.well_formed.0.1.1.0.1.0.1 in
-    set_past c.args.self c.args.n c.args.phase full c.if-n.false
+    elim c.else-n-ge1.branch [
+      | else-n-ge1-via-then-n-ge1+else-n-le-PHASES w ↦ set_over c.args.self c.args.n c.args.phase full w.if-n-le-PHASES.false
+      | else-n-ge1-via-else-n-ge1 w ↦ set_under c.args.self c.args.n c.args.phase full w.if-n-ge1.false
+    ]

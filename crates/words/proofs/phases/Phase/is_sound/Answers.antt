@@ -3,9 +3,6 @@
 use Rattle.words.proofs.Data.{phase_tests}
 use Rattle.words.proofs.phases.Phase.is_sound.Goals as goal
 
-pub returns-then-is_plain : goal.returns-then-is_plain
-returns-then-is_plain c = search c.is_plain.ensures
-
 pub returns-then-is_writable-2 : goal.returns-then-is_writable-2
 returns-then-is_writable-2 c = search phase_tests
 

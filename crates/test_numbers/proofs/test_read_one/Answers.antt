@@ -1,6 +1,0 @@
--- `test_read_one` meets its contract: `short_as` answers for what `read_one` ensures.
-use Rattle.test_numbers.proofs.Handed.{as_numbers}
-use Rattle.test_numbers.proofs.test_read_one.Goals as goal
-
-pub returns : goal.returns
-returns c = search as_numbers

@@ -1,6 +1,0 @@
--- `Function::is_beep` meets its contract: it asks the number.
--- Assumes nothing.
-use Rattle.words.proofs.functions.Function.is_beep.Goals as goal
-
-pub returns : goal.returns
-returns c = rw c.number.ensures

@@ -1,6 +1,0 @@
--- `Function::is_out` meets its contract: it asks the number.
--- Assumes nothing.
-use Rattle.words.proofs.functions.Function.is_out.Goals as goal
-
-pub returns : goal.returns
-returns c = rw c.number.ensures

@@ -1,6 +1,0 @@
--- `Function::takes_phase` meets its contract: it asks the number.
--- Assumes nothing.
-use Rattle.words.proofs.functions.Function.takes_phase.Goals as goal
-
-pub returns : goal.returns
-returns c = rw c.number-n.ensures

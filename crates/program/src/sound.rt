@@ -85,6 +85,6 @@ fn is_sound_visit(visit: Visit, syringe: Syringe, here: Phase, rate: Option<Rate
     (visit.store < threshold)
         & (visit.target == target)
         & ((visit.given < visit.target) | (here.volume == 0) & (visit.given == 0))
-        & rate.is_some_and(|rate| rate.is_usable(syringe))
+        & Rate::is_usable(rate, syringe)
         & here.function.is_rate_phase()
 }

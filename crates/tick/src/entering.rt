@@ -20,8 +20,8 @@ pub fn enter(run: Run, pins: Pins, syringe: Syringe, here: Phase) -> Run
             unit: here.unit,
             thousandths: here.rate,
         }),
-        Function::Inc => run.rate.and_then(|rate| rate.increase(here.rate)),
-        Function::Dec => run.rate.map(|rate| rate.decrease(here.rate)),
+        Function::Inc => Rate::increase(run.rate, here.rate),
+        Function::Dec => Rate::decrease(run.rate, here.rate),
         Function::Stp => return run.stop(),
         Function::Jmp(n) => return run.go_to(n),
         Function::Lop(n) => return pass_loop(run, n),
@@ -43,7 +43,7 @@ fn enter_rate(run: Run, syringe: Syringe, here: Phase, rate: Option<Rate>) -> Ru
     requires { run.place.current ≤ 100 }
     ensures { result ≡ enter_rate run syringe here rate }
 {
-    if rate.is_some_and(|rate| rate.is_usable(syringe)) {
+    if Rate::is_usable(rate, syringe) {
         return begin_visit(run.with_rate(rate), syringe, here);
     }
     run.raise(Alarm::Program)

@@ -1,8 +1,6 @@
 -- `enter` meets its contract.
 -- Assumes nothing.
-use mathlib.Core.Path.{◌≡◌, ap, ◌∙◌}
-use borrow.Author.Rules.{rules}
-use Rattle.dispense.specs.Rates.{increase, decrease}
+use mathlib.Core.Path.{ap, ◌∙◌}
 use Rattle.tick.specs.Entering.{enter_rate}
 use Rattle.tick.proofs.Ticking.{enters_by, entering}
 use Rattle.tick.proofs.entering.enter.Goals as goal
@@ -50,10 +48,6 @@ returns c =
     let by_rate = enter_rate a.run a.syringe a.here in
     elim c.match-here.branch [
       | in-Rat w ↦ enters_by _ _ _ _ _ _ w.in-Rat.is (c.enter_rate.ensures ∙ ap by_rate w.rate-is)
-      | in-Inc w ↦
-          let more : w.and_then-rate.result ≡ increase a.run.rate a.here.rate = search rules in
-          enters_by _ _ _ _ _ _ w.in-Inc.is (c.enter_rate.ensures ∙ ap by_rate (w.rate-is ∙ more))
-      | in-Dec w ↦
-          let less : w.map-rate.result ≡ decrease a.run.rate a.here.rate = search rules in
-          enters_by _ _ _ _ _ _ w.in-Dec.is (c.enter_rate.ensures ∙ ap by_rate (w.rate-is ∙ less))
+      | in-Inc w ↦ enters_by _ _ _ _ _ _ w.in-Inc.is (c.enter_rate.ensures ∙ ap by_rate (w.rate-is ∙ w.increase-rate.ensures))
+      | in-Dec w ↦ enters_by _ _ _ _ _ _ w.in-Dec.is (c.enter_rate.ensures ∙ ap by_rate (w.rate-is ∙ w.decrease-rate.ensures))
     ]

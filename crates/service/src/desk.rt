@@ -2,7 +2,7 @@
 ghost use Rattle.std.specs.Prelude.{◌≤◌, length};
 
 use crate::places::{Ask, MOST_DATA, Place};
-use crate::printing::{byte_line, ticks_line};
+use crate::printing::{Line, byte_line, ticks_line};
 use player::{Elapsed, Rig};
 use pump::Pump;
 use script::{Act, Spot};
@@ -133,7 +133,7 @@ fn byte_sent(rig: Rig, b: u8, output: &mut impl Write) -> io::Result<Rig> {
 fn answered(refused: bool, answer: &[u8], output: &mut impl Write) -> io::Result<bool>
     requires { length answer.now ≤ 24 }
 {
-    let line = byte_line(refused, answer);
+    let line: Line = byte_line(refused, answer);
     output.write_all(line.as_slice())?;
     Ok(!line.is_empty())
 }

@@ -43,26 +43,26 @@ fn effects_line(n: u64, infused: u64, withdrawn: u64, beeps: u64, level: u64) ->
     line
 }
 
-// What a byte call has to say: that it was refused, or its answer if there is one.
-pub fn byte_line(refused: bool, answer: &[u8]) -> Line
-    requires { 1 + 2 * length answer.now ≤ 115 }
+// What a byte call has to say: that it was refused, or its answer if there is one. The caller says how many bytes the line has room for.
+pub fn byte_line<const N: usize>(refused: bool, answer: &[u8]) -> ArrayVec<u8, N>
+    requires { (1 + 2 * length answer.now ≤ N) × (2 ≤ N) }
     ensures { result.items ≡ byte_line refused answer.now }
 {
     if refused {
         return line_of(complaint().as_slice());
     }
     if answer.is_empty() {
-        return Line::new();
+        return ArrayVec::new();
     }
     hex_line(answer)
 }
 
 // The bytes of an answer in hexadecimal: two digits each, the higher first.
-fn hex_line(answer: &[u8]) -> Line
-    requires { 1 + 2 * length answer.now ≤ 115 }
+fn hex_line<const N: usize>(answer: &[u8]) -> ArrayVec<u8, N>
+    requires { 1 + 2 * length answer.now ≤ N }
     ensures { result.items ≡ hex_line answer.now }
 {
-    let mut line = Line::new();
+    let mut line = ArrayVec::new();
     for b in answer {
         line.push(hex_digit(*b / 16));
         line.push(hex_digit(*b % 16));
@@ -71,11 +71,11 @@ fn hex_line(answer: &[u8]) -> Line
     line
 }
 
-fn line_of(bytes: &[u8]) -> Line
-    requires { length bytes.now ≤ 115 }
+fn line_of<const N: usize>(bytes: &[u8]) -> ArrayVec<u8, N>
+    requires { length bytes.now ≤ N }
     ensures { result.items ≡ bytes.now }
 {
-    let mut line = Line::new();
+    let mut line = ArrayVec::new();
     line.try_extend_from_slice(bytes).unwrap();
     line
 }

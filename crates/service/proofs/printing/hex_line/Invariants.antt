@@ -4,4 +4,4 @@ use Rattle.service.proofs.Hexadecimal.{Spelt}
 use Rattle.service.proofs.printing.hex_line.Given as goal
 
 abbrev pub invariant-loop-b : goal.invariant-loop-b
-invariant-loop-b l = Spelt l.answer l.line.items l.b-index
+invariant-loop-b g l = Spelt l.answer l.line.items l.b-index

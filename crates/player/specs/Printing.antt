@@ -1,6 +1,11 @@
 -- What is printed, a line at a time.   (01, Marked figures: the bench program)
 use Rattle.std.specs.Prelude.{ℕ, zero, suc, ◌+◌, ◌/◌, ◌%◌, ◌-◌, List, [], ◌∷◌, ◌++◌, ltb, take, drop, if◌then◌else◌}
 use Rattle.base.specs.Text.{text}
+use Rattle.player.specs.declared.joining.Lines.{Lines}
+
+-- what lines in the code's array say: the bytes up to the end of the text
+unfoldable pub lines_text : Lines → List ℕ
+lines_text l = take l.end l.bytes
 
 -- `!`
 abbrev pub complaint_line : List ℕ

@@ -3,7 +3,7 @@ ghost use Rattle.std.specs.Prelude.{◌≡◌, ◌+◌, ◌≤◌, length};
 ghost use Rattle.base.specs.Wrote.{Wrote};
 ghost use Rattle.player.specs.Scripts.{fresh_bench, closed, Feeds};
 
-use crate::printing::ROOM;
+use crate::joining::ROOM;
 use crate::rigs::Rig;
 use base::copy;
 use script::Spot;

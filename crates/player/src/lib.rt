@@ -5,16 +5,19 @@
 //
 //   elapsing   time that passes, by calls of many ticks
 //   rigs       the pump under test: what each act does to it and prints
+//   joining    what an act prints, as a value
 //   printing   lines, counts, the complaint
 //   feeding    the bytes of the input, one after the other, and its end
 #![tactic(auto)]
 
 mod elapsing;
 mod feeding;
+mod joining;
 mod printing;
 mod rigs;
 
 pub use elapsing::{Elapsed, elapse, portion};
 pub use feeding::{Bench, Fed};
-pub use printing::{Label, Lines, complaint, labelled};
+pub use joining::Lines;
+pub use printing::{Label, complaint, labelled};
 pub use rigs::{Acted, Rig};

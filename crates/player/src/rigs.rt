@@ -1,12 +1,12 @@
 // The pump under test: what each act does to it, and what is printed.
 ghost use Rattle.std.specs.Prelude.{◌≡◌, ◌≤◌, length};
+ghost use Rattle.player.specs.Printing.{lines_text};
 ghost use Rattle.player.specs.Rigs.{fresh_rig, rig_after, printed, sent_rig, sent_line, send_rig, send_lines};
 ghost use Rattle.player.specs.Rigs.{finish_rig, finish_lines, set_rig, set_lines, run_rig, run_lines};
 
 use crate::elapsing::elapse;
-use crate::printing::{
-    Lines, answer_line, complaint, joined, refusal_line, silence_line, ticks_line,
-};
+use crate::joining::Lines;
+use crate::printing::{answer_line, complaint, refusal_line, silence_line, ticks_line};
 use pump::Pump;
 use script::Act;
 
@@ -18,7 +18,7 @@ pub struct Rig {
 }
 
 // The rig after an act, and what it printed.
-#[derive(Drop)]
+#[derive(Clone, Copy)]
 pub struct Acted {
     pub rig: Rig,
     pub lines: Lines,
@@ -37,7 +37,7 @@ impl Rig {
     // What it does, and what it prints.
     pub fn act(self, act: Act) -> Acted
         ensures rig { result.rig ≡ rig_after self act }
-        ensures lines { result.lines.items ≡ printed self act }
+        ensures lines { lines_text result.lines ≡ printed self act }
     {
         let lines = match act {
             Act::Send(held, b) => return self.send(held, b),
@@ -53,15 +53,15 @@ impl Rig {
     // A byte of a text, behind the return that was held back.
     fn send(self, held: bool, b: u8) -> Acted
         ensures rig { result.rig ≡ send_rig self held b }
-        ensures lines { result.lines.items ≡ send_lines self held b }
-        ensures few { length result.lines.items ≤ 46 }
+        ensures lines { lines_text result.lines ≡ send_lines self held b }
+        ensures few { length (lines_text result.lines) ≤ 46 }
     {
         if held {
             let first = self.sent(b'\r');
             let second = first.rig.sent(b);
             return Acted {
                 rig: second.rig,
-                lines: joined(first.lines.as_slice(), second.lines.as_slice()),
+                lines: Lines::joined(first.lines.as_slice(), second.lines.as_slice()),
             };
         }
         self.sent(b)
@@ -70,7 +70,7 @@ impl Rig {
     // The return that ends a text.
     fn finish(self, held: bool) -> Acted
         ensures rig { result.rig ≡ finish_rig self held }
-        ensures lines { result.lines.items ≡ finish_lines self held }
+        ensures lines { lines_text result.lines ≡ finish_lines self held }
     {
         let last = self.send(held, b'\r');
         let silence = silence_line(last.rig.replied);
@@ -79,15 +79,15 @@ impl Rig {
                 pump: last.rig.pump,
                 replied: false,
             },
-            lines: joined(last.lines.as_slice(), silence.as_slice()),
+            lines: Lines::joined(last.lines.as_slice(), silence.as_slice()),
         }
     }
 
     // One byte. A line that it prints is an answer to the text.
     fn sent(self, b: u8) -> Acted
         ensures rig { result.rig ≡ sent_rig self b }
-        ensures lines { result.lines.items ≡ sent_line self b }
-        ensures few { length result.lines.items ≤ 23 }
+        ensures lines { lines_text result.lines ≡ sent_line self b }
+        ensures few { length (lines_text result.lines) ≤ 23 }
     {
         let mut answer = [0u8; 24];
         let report = self.pump.byte(b, &mut answer);
@@ -102,7 +102,7 @@ impl Rig {
     // A pin's level; printed only where the call refuses it.
     fn set(self, pin: u8, level: u8) -> Acted
         ensures rig { result.rig ≡ set_rig self pin level }
-        ensures lines { result.lines.items ≡ set_lines self pin level }
+        ensures lines { lines_text result.lines ≡ set_lines self pin level }
     {
         let report = self.pump.pin(pin, level);
         Acted {
@@ -117,7 +117,7 @@ impl Rig {
     // Ticks, and the counts of their steps. They are refused where the state is not sound.
     fn run(self, n: u32) -> Acted
         ensures rig { result.rig ≡ run_rig self n }
-        ensures lines { result.lines.items ≡ run_lines self n }
+        ensures lines { lines_text result.lines ≡ run_lines self n }
     {
         let elapsed = elapse(self.pump, n);
         Acted {

@@ -1,7 +1,7 @@
 -- A word at the front of a text.
 -- Assumes nothing.
 use Rattle.std.specs.Cmp.Lexicographic.{pointwise}
-use Prim.Native.Nat.{ℕ, ◌-◌, ◌≤◌}
+use Prim.Native.Nat.{ℕ, ◌-◌, ◌≤◌, ◌<◌}
 use mathlib.Core.Path.{◌≡◌, refl, sym, ap, ◌∙◌}
 use mathlib.Core.Bool.{Bool, true, false}
 use mathlib.Core.List.{List, [], ◌∷◌, ◌++◌, append-nil}
@@ -20,6 +20,13 @@ leads_within [] s e = omega arith
 leads_within (c ∷ word) [] e = false_true e
 leads_within (c ∷ word) (b ∷ s) e =
     let h : length word ≤ length s = leads_within word s (and_right (eqb b c) (leads word s) e) in omega arith
+
+pub too_short : (word s : List ℕ) → length s < length word → false ≡ leads word s
+too_short word s h = go (leads word s) refl
+  where
+    go : (t : Bool) → leads word s ≡ t → false ≡ leads word s
+    go true e = absurd (omega (arith, leads_within word s e))
+    go false e = sym e
 
 eqb_sym : (a b : ℕ) → eqb a b ≡ eqb b a
 eqb_sym a b = go (eqb b a) refl

@@ -7,6 +7,7 @@ pub mod Naming
 pub mod Calling
 pub mod Asking
 pub mod Behind
+pub mod Collecting
 pub mod Sent
 pub mod Requesting
 pub mod ReadBack

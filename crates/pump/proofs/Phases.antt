@@ -12,13 +12,21 @@ use native.Mathlib.Nat.{le_of_suc-le-suc, not-suc-le-zero}
 use native.Mathlib.Omega.{arith}
 use lib.Dec.{leb}
 use lib.ListN.{length, get_or, set, get_or-eq_default}
-use borrow.Author.Tests.{le-leb, lt-leb}
-use Rattle.base.proofs.Choices.{and_false}
+use borrow.Author.Tests.{le-leb, lt-leb, leb-true}
+use Rattle.base.proofs.Choices.{and_left, and_right, and_false}
 use Rattle.words.specs.Functions.{is_phase}
 use Rattle.words.specs.Phases.{power_up, is_sound_phase}
 use Rattle.words.specs.declared.phases.Phase.{Phase}
 use Rattle.pump.specs.Holder.{phase_count, stop_phase, phase_at, with_phases, with_phase, is_sound_phases}
 use Rattle.pump.specs.declared.holder.Pump.{Pump}
+
+-- ---- a number that passed the test is from 1 to the last
+module _ (count n : ℕ) (e : is_phase count n ≡ true) where
+  pub number_least : 1 ≤ n
+  number_least = leb-true 1 n (and_left (leb 1 n) (leb n count) e)
+
+  pub number_most : n ≤ count
+  number_most = leb-true n count (and_right (leb 1 n) (leb n count) e)
 
 -- ---- the phase of a number
 get_d_within : (l : List Phase) (i : ℕ) (d e : Phase) → i < length l → get_or l i d ≡ get_or l i e

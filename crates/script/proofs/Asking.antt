@@ -2,10 +2,12 @@
 -- Assumes nothing.
 use Prim.Native.Nat.{ℕ, ◌+◌, ◌*◌, ◌≤◌, ◌<◌}
 use mathlib.Core.Path.{◌≡◌, sym}
+use mathlib.Core.Bool.{Bool, true, ◌&&◌}
 use Rattle.std.specs.Prelude.{Option, Some, None}
 use native.Mathlib.Omega.{arith}
-use borrow.Author.Tests.{lt-ltb, le-ltb, le-leb, lt-leb}
-use Rattle.base.proofs.Choices.{and_false}
+use lib.Dec.{leb}
+use borrow.Author.Tests.{lt-ltb, le-ltb, le-leb, lt-leb, leb-true}
+use Rattle.base.proofs.Choices.{and_left, and_right, and_false}
 use Rattle.script.specs.Numbers.{most_ticks, most_byte, grown, ticks_asked, level_asked}
 use Rattle.script.specs.declared.places.Act.TheVariants.{Set, Run, Complain}
 
@@ -48,5 +50,14 @@ module _ (pin : ℕ) (o : Option ℕ) where
   pub level_missing : o ≡ None → Complain ≡ level_asked pin o
   unfolding level_asked
   level_missing e = rw e
+
+-- a pin and a level that pass the test, where a level was written, fit a byte each
+module _ (pin : ℕ) (some : Bool) (level : ℕ) where
+  module _ (e : (some && leb pin most_byte && leb level most_byte) ≡ true) where
+    pub pin_byte : pin ≤ most_byte
+    pin_byte = leb-true pin most_byte (and_right some (leb pin most_byte) (and_left (some && leb pin most_byte) (leb level most_byte) e))
+
+    pub level_byte : level ≤ most_byte
+    level_byte = leb-true level most_byte (and_right (some && leb pin most_byte) (leb level most_byte) e)
 
 pub ruleset asked = (ticks_run, ticks_few, ticks_many, level_set, pin_large, level_large, level_missing)

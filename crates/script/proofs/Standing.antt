@@ -1,14 +1,18 @@
--- One byte more of a line, by what was called for it.
+-- One byte more of a line, by the place that was matched and what was called for it.
 -- Assumes nothing.
 use Prim.Native.Nat.{ℕ}
 use mathlib.Core.Path.{◌≡◌, sym}
 use borrow.Author.Tests.{eq-eqb, ne_eqb}
-use Rattle.script.specs.Places.{line_end, returned, returned_act, next, act_on, after_spot}
+use Rattle.script.specs.Places.{behind_tick, line_end, returned, returned_act, next, act_on, after_spot}
 use Rattle.script.specs.declared.places.Act.{Act}
 use Rattle.script.specs.declared.places.Spot.{Spot}
-use Rattle.script.specs.declared.places.Spot.TheVariants.{Start}
+use Rattle.script.specs.declared.places.Spot.TheVariants.{Start, Tick}
 
 module _ (p : Spot) (b : ℕ) where
+  -- ---- any other byte
+  pub next_tick_lem : (r : Spot) → p ≡ Tick → r ≡ behind_tick b → r ≡ next p b
+  next_tick_lem r e h = rw e h
+
   -- ---- one byte more
   pub after_newline : (a : Act) → b ≡ 10 → a ≡ line_end p → record { place = Start; act = a } ≡ after_spot p b
   unfolding after_spot

@@ -1,9 +1,12 @@
--- A function's name: how long it is.
+-- How long a function's name is, and how large its number.
 -- Assumes nothing.
 use Rattle.std.specs.Prelude.{if◌then◌else◌}
+use Prim.Native.Nat.{◌≤◌}
 use mathlib.Core.Path.{◌≡◌, refl}
-use lib.Dec.{eqb}
+use mathlib.Core.Bool.{true}
+use lib.Dec.{leb, eqb}
 use lib.ListN.{length}
+use borrow.Author.Tests.{leb-true}
 use Rattle.words.specs.Functions.{number}
 use Rattle.words.specs.Spelling.{function_name}
 use Rattle.words.specs.declared.functions.Function.{Function}
@@ -25,3 +28,23 @@ name_length_is (f.Evn n) = refl
 name_length_is f.Evr = refl
 name_length_is f.Bep = refl
 name_length_is (f.Out n) = refl
+
+within : (g : Function) → leb (number g) 14 ≡ true
+within f.Rat = refl
+within f.Inc = refl
+within f.Dec = refl
+within f.Stp = refl
+within (f.Jmp n) = refl
+within (f.Lop n) = refl
+within f.Lps = refl
+within f.Lpe = refl
+within (f.Pas n) = refl
+within (f.Tenths n) = refl
+within (f.If n) = refl
+within (f.Evn n) = refl
+within f.Evr = refl
+within f.Bep = refl
+within (f.Out n) = refl
+
+pub number_most : (g : Function) → number g ≤ 14
+number_most g = leb-true (number g) 14 (within g)

@@ -24,5 +24,6 @@ fn put_check(out: &mut [u8], at: usize, text: &[u8]) -> usize
     requires { at + 2 ≤ length out.old }
     ensures { Wrote out.old out.new at result (check_bytes text.now) }
 {
-    copy(out, at, &crc::check(text).to_be_bytes())
+    let [high, low] = crc::check(text).to_be_bytes();
+    copy(out, at, &[high, low])
 }

@@ -31,7 +31,7 @@ impl Lines {
     }
 
     // Two runs of bytes, one behind the other.
-    pub fn joined(first: &[u8], second: &[u8]) -> Lines
+    pub(crate) fn joined(first: &[u8], second: &[u8]) -> Lines
         requires { length first.now + length second.now ≤ 69 }
         ensures { lines_text result ≡ first.now ++ second.now }
     {
